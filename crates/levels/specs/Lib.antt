@@ -1,0 +1,5 @@
+pub mod Meaning
+pub mod Means
+pub mod Masks
+pub mod Four
+pub mod Party
