@@ -1,0 +1,4 @@
+pub mod Types
+pub mod Terms
+pub mod Processes
+pub mod Tables
