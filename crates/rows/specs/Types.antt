@@ -1,5 +1,5 @@
 -- Types, as rows.
-use mathlib.Core.Bool.{Bool, _&&_}
+use mathlib.Core.Bool.{Bool, true, false, _&&_}
 use mathlib.Core.List.{List, [], _∷_}
 use Prim.Native.Nat.{ℕ}
 use lib.Dec.{eqb}
@@ -20,12 +20,15 @@ type-kind-number Ver = 6
 abbrev pub same-kind : TypeKind → TypeKind → Bool
 same-kind a b = eqb (type-kind-number a) (type-kind-number b)
 
-abbrev pub same-four : List ℕ → List ℕ → Bool
-same-four p q = eqb (getD p 0 0) (getD q 0 0) && (eqb (getD p 1 0) (getD q 1 0) && (eqb (getD p 2 0) (getD q 2 0) && eqb (getD p 3 0) (getD q 3 0)))
+abbrev pub same-list : List ℕ → List ℕ → Bool
+same-list [] [] = true
+same-list [] (y ∷ ys) = false
+same-list (x ∷ xs) [] = false
+same-list (x ∷ xs) (y ∷ ys) = eqb x y && same-list xs ys
 
 -- equal types: kind, level, count and payload
 abbrev pub same-type : TypeRow → TypeRow → Bool
-same-type t u = same-kind (t .kind) (u .kind) && (eqb (t .level) (u .level) && (eqb (t .count) (u .count) && same-four (t .payload) (u .payload)))
+same-type t u = same-kind (t .kind) (u .kind) && (eqb (t .level) (u .level) && (eqb (t .count) (u .count) && same-list (t .payload) (u .payload)))
 
 -- the plain type of a level
 abbrev pub plain : ℕ → TypeRow

@@ -1,7 +1,7 @@
 ghost use mathlib.Core.Path.{_≡_};
 ghost use Prim.Native.Nat.{ℕ, _+_};
 ghost use lib.ListN.{getD, take, drop};
-ghost use Rattle.rows.specs.Types.{same-kind, same-type, type-at, plain, type-kind-number};
+ghost use Rattle.rows.specs.Types.{same-kind, same-list, same-type, type-at, plain, type-kind-number};
 ghost use Rattle.rows.specs.Processes.{adds, process-kind-number, run-of};
 ghost use Rattle.rows.specs.Terms.{term-kind-number};
 use crate::process::ProcessKind;
@@ -45,6 +45,21 @@ impl ProcessKind {
     }
 }
 
+fn same_four(a: &[u16; 4], b: &[u16; 4]) -> bool
+    ensures { λ r. ⌜ r ≡ same-list (now (a .entry)) (now (b .entry)) ⌝ }
+{
+    if a[0] != b[0] {
+        return false;
+    }
+    if a[1] != b[1] {
+        return false;
+    }
+    if a[2] != b[2] {
+        return false;
+    }
+    a[3] == b[3]
+}
+
 impl TypeRow {
     /// The plain type of a level.
     pub fn plain(level: u16) -> TypeRow
@@ -65,10 +80,7 @@ impl TypeRow {
         self.kind.is(other.kind)
             && self.level == other.level
             && self.count == other.count
-            && self.payload[0] == other.payload[0]
-            && self.payload[1] == other.payload[1]
-            && self.payload[2] == other.payload[2]
-            && self.payload[3] == other.payload[3]
+            && same_four(&self.payload, &other.payload)
     }
 
     /// The type in row `x` of a table; past its end, the plain type of level 0.
