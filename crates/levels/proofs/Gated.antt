@@ -40,9 +40,10 @@ module _ (l : ℕ → Bool) (r : ℕ → ℕ → Bool) (m : ℕ → ℕ → ℕ)
         reflexive = λ a h. from a a h h (k .reflects a);
         antisymmetric = λ a b p q. k .anti a b (order a b p) (order b a q);
         transitive = λ a b c p q. from a c (both a b p .0) (both b c q .1) (k .trans a b c (order a b p) (order b c q));
-        meet-below = λ a b p q.
-            (rw (meet-is a b p q) (from (m a b) a (k .m-in a b p q) p (k .m-left a b)),
-              rw (meet-is a b p q) (from (m a b) b (k .m-in a b p q) q (k .m-right a b)));
+        meet-below = λ a b p q. (
+          rw (meet-is a b p q) (from (m a b) a (k .m-in a b p q) p (k .m-left a b)),
+          rw (meet-is a b p q) (from (m a b) b (k .m-in a b p q) q (k .m-right a b)),
+        );
         meet-greatest = λ a b c p q.
             let la = both c a p .1 in
             let lb = both c b q .1 in

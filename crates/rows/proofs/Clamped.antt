@@ -18,10 +18,10 @@ clamped xs f t a b p q =
     ⊎-elim
     (λ past. ap (take (b - a)) (drop-all a xs (omega arith)) ∙ none (b - a) ∙ sym (none t) ∙ ap (take t) (sym (drop-all f xs (omega arith))))
     (λ within.
-      let e : a ≡ f = omega arith in
-      ap (λ k. take (b - a) (drop k xs)) e
-      ∙ ⊎-elim
-        (λ short. take-all (b - a) (drop f xs) (omega (arith, length-drop f xs)) ∙ sym (take-all t (drop f xs) (omega (arith, length-drop f xs))))
-        (λ long. let n : b - a ≡ t = omega arith in ap (λ k. take k (drop f xs)) n)
-        (cases-lt (length xs) (f + t)))
+    let e : a ≡ f = omega arith in
+    ap (λ k. take (b - a) (drop k xs)) e
+    ∙ ⊎-elim
+    (λ short. take-all (b - a) (drop f xs) (omega (arith, length-drop f xs)) ∙ sym (take-all t (drop f xs) (omega (arith, length-drop f xs))))
+    (λ long. let n : b - a ≡ t = omega arith in ap (λ k. take k (drop f xs)) n)
+    (cases-lt (length xs) (f + t)))
     (cases-lt (length xs) f)

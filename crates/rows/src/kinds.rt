@@ -88,7 +88,11 @@ impl TypeRow {
         ensures { λ r. ⌜ r ≡ type-at (now (table .entry)) x ⌝ }
     {
         let i = x as usize;
-        if i < table.len() { table[i] } else { TypeRow::plain(0) }
+        if i < table.len() {
+            table[i]
+        } else {
+            TypeRow::plain(0)
+        }
     }
 }
 
@@ -99,8 +103,13 @@ impl ProcessRow {
     {
         match self.kind {
             ProcessKind::New => 1,
-            ProcessKind::In | ProcessKind::Sopen | ProcessKind::Aopen | ProcessKind::Verify => self.count,
-            ProcessKind::Stop | ProcessKind::Out | ProcessKind::Both | ProcessKind::Again | ProcessKind::If => 0,
+            ProcessKind::In | ProcessKind::Sopen | ProcessKind::Aopen | ProcessKind::Verify =>
+                self.count,
+            ProcessKind::Stop
+            | ProcessKind::Out
+            | ProcessKind::Both
+            | ProcessKind::Again
+            | ProcessKind::If => 0,
         }
     }
 

@@ -1,0 +1,5 @@
+pub mod Entries
+pub mod Weight
+pub mod Pending
+pub mod Turn
+pub mod Agrees

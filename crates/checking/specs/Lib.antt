@@ -1,0 +1,4 @@
+pub mod Refusal
+pub mod Verdict
+pub mod Theorems
+pub mod Stack

@@ -1,0 +1,13 @@
+pub mod Shaped
+pub mod FirstBad
+pub mod Passed
+pub mod Ends
+pub mod Enclosed
+pub mod Reached
+pub mod Rooted
+pub mod Counting
+pub mod FitRest
+pub mod RunRest
+pub mod Repeated
+pub mod Outcome
+pub mod TypeRead

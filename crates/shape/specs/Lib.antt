@@ -1,0 +1,9 @@
+pub mod Fault
+pub mod Numbers
+pub mod First
+pub mod Types
+pub mod Processes
+pub mod Terms
+pub mod Depth
+pub mod Whole
+pub mod Tree

@@ -1,0 +1,10 @@
+pub mod Same
+pub mod Relations
+pub mod Chain
+pub mod Parts
+pub mod Cuts
+pub mod Runs
+pub mod Uses
+pub mod Typings
+pub mod Premises
+pub mod Decided
