@@ -2,6 +2,9 @@ ghost use mathlib.Core.Path.{_≡_};
 ghost use Rattle.levels.specs.Four.{four-level, four-below, four-meet};
 use crate::scheme::Scheme;
 
+// low confidentiality and low integrity
+const OPEN: u16 = 1;
+
 /// The four levels: 2 stands for high confidentiality, and 1 more for low integrity.
 #[derive(Clone, Copy)]
 pub struct FourLevels;
@@ -20,14 +23,18 @@ pub impl Scheme for FourLevels as FourScheme {
     }
 
     fn below(&self, a: u16, b: u16) -> bool {
-        a < 4 && b < 4 && a & b == a
+        self.is_level(a) && self.is_level(b) && a & b == a
     }
 
     fn meet(&self, a: u16, b: u16) -> u16 {
-        if a < 4 && b < 4 { a & b } else { 1 }
+        if self.is_level(a) && self.is_level(b) {
+            a & b
+        } else {
+            self.open()
+        }
     }
 
     fn open(&self) -> u16 {
-        1
+        OPEN
     }
 }
