@@ -2,7 +2,6 @@
 
 mod refusal;
 mod verdict;
-mod walk;
 
 pub use refusal::Refusal;
 pub use refusal::RefusalFromShape;

@@ -10,7 +10,7 @@ pub enum Refusal {
     /// its tables are out of shape
     Shape(ShapeFault),
     /// a process row, or a term of it, breaks a typing rule
-    Typing(Misuse, u16),
+    Typing(Misuse, usize),
 }
 
 pub impl From<ShapeFault> for Refusal as RefusalFromShape {
@@ -33,7 +33,7 @@ impl Refusal {
     }
 
     /// The row at fault.
-    pub fn row(self) -> u16
+    pub fn row(self) -> usize
         ensures { λ r. ⌜ r ≡ refusal-row self ⌝ }
     {
         match self {

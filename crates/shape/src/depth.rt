@@ -48,12 +48,11 @@ fn is_shallow(rows: &[ProcessRow], i: usize) -> bool
 }
 
 pub(crate) fn depth_in_shape(rows: &[ProcessRow]) -> Result<(), ShapeFault>
-    requires { ⌜ length (now rows) ≤ 512 ⌝ }
     ensures { λ r. ⌜ r ≡ depth-shape (now (rows .entry)) ⌝ }
 {
     for i in 0..rows.len() {
         if !is_shallow(rows, i) {
-            return Err(ShapeFault::Depth(i as u16));
+            return Err(ShapeFault::Depth(i));
         }
     }
     Ok(())

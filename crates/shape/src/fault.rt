@@ -7,13 +7,13 @@ pub enum ShapeFault {
     /// no type or process row, or a table over its limit
     Size,
     /// a row of the types
-    Types(u16),
+    Types(usize),
     /// a row of the processes
-    Processes(u16),
+    Processes(usize),
     /// a row of the terms
-    Terms(u16),
+    Terms(usize),
     /// the process row that is a seventh aopen on a way down
-    Depth(u16),
+    Depth(usize),
 }
 
 impl ShapeFault {
@@ -31,7 +31,7 @@ impl ShapeFault {
     }
 
     /// The row at fault, in the table that the number speaks of.
-    pub fn row(self) -> u16
+    pub fn row(self) -> usize
         ensures { λ r. ⌜ r ≡ shape-row self ⌝ }
     {
         match self {

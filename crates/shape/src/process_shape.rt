@@ -163,12 +163,11 @@ fn process_fits(l: Listing, i: usize) -> bool
 }
 
 pub(crate) fn processes_in_shape(l: Listing) -> Result<(), ShapeFault>
-    requires { ⌜ length (l .processes .now) ≤ 512 ⌝ }
     ensures { λ r. ⌜ r ≡ processes-shape (tables (l .entry)) ⌝ }
 {
     for i in 0..l.processes.len() {
         if !process_fits(l, i) {
-            return Err(ShapeFault::Processes(i as u16));
+            return Err(ShapeFault::Processes(i));
         }
     }
     Ok(())

@@ -48,20 +48,18 @@ fn term_fits(t: TermRow, place: usize, slots: u16) -> bool
 
 // The shape of a process row's run.
 fn run_in_shape(terms: &[TermRow], p: ProcessRow) -> Result<(), ShapeFault>
-    requires { ⌜ length (now terms) ≤ 2048 ⌝ }
     ensures { λ r. ⌜ r ≡ run-shape (p .slots) (p .first) 0 (run-of (now (terms .entry)) p) ⌝ }
 {
     let run = p.run(terms);
     for j in 0..run.len() {
         if !term_fits(run[j], j, p.slots) {
-            return Err(ShapeFault::Terms(p.first + j as u16));
+            return Err(ShapeFault::Terms(p.first as usize + j));
         }
     }
     Ok(())
 }
 
 pub(crate) fn terms_in_shape(l: Listing) -> Result<(), ShapeFault>
-    requires { ⌜ length (l .terms .now) ≤ 2048 ⌝ }
     ensures { λ r. ⌜ r ≡ terms-shape (l .entry .terms .now) (l .entry .processes .now) ⌝ }
 {
     for p in l.processes {

@@ -67,12 +67,11 @@ fn type_fits<S: Scheme>(s: &S, types: &[TypeRow], i: usize) -> bool
 }
 
 pub(crate) fn types_in_shape<S: Scheme>(s: &S, types: &[TypeRow]) -> Result<(), ShapeFault>
-    requires { ⌜ length (now types) ≤ 64 ⌝ }
     ensures { λ r. ⌜ r ≡ types-shape (means S·Scheme (now (s .entry))) (now (types .entry)) ⌝ }
 {
     for i in 0..types.len() {
         if !type_fits(s, types, i) {
-            return Err(ShapeFault::Types(i as u16));
+            return Err(ShapeFault::Types(i));
         }
     }
     Ok(())

@@ -5,7 +5,7 @@ use Rattle.checking.specs.Verdict.{rules}
 use Rattle.checking.proofs.Entries.{held}
 use Rattle.checking.proofs.Turn.{Turn}
 use Rattle.checking.proofs.Weight.{weight}
-use Rattle.checking.proofs.walk.walk.Given as given
+use Rattle.checking.proofs.verdict.walk.Given as given
 
 abbrev pub Inv-turn : given.InvT-turn
 Inv-turn g l =

@@ -5,7 +5,7 @@ use native.Mathlib.Omega.{arith}
 use lib.ListN.{length, take, length-take}
 use Rattle.std.proofs.shelf.Parts.{take-putMid-below, take-putMid}
 use Rattle.rows.specs.Processes.{adds}
-use Rattle.checking.proofs.walk.enter.Needs as need
+use Rattle.checking.proofs.verdict.enter.Needs as need
 
 pub returns : need.returns
 returns c =

@@ -11,8 +11,8 @@ use Rattle.shape.proofs.Reached
 use Rattle.typing.specs.declared.judging.Judgement.the-variants.{Done, Binds, Splits, Opens, Refuses}
 use Rattle.checking.specs.Stack.{limit-at}
 use Rattle.checking.proofs.Turn.{turn-as, weight-as, begins, shaped, top-inside, on, read-by, on-done, on-splits, on-binds, space, on-opens, on-refuses, falls, falls-opens, on-again, falls-again, on-back, falls-back, at-end}
-use Rattle.checking.proofs.walk.walk.Needs as need
-use Rattle.checking.proofs.walk.walk.Needs.{in-Done, in-Splits, in-Binds, in-Opens}
+use Rattle.checking.proofs.verdict.walk.Needs as need
+use Rattle.checking.proofs.verdict.walk.Needs.{in-Done, in-Splits, in-Binds, in-Opens}
 
 pub turn-holds : need.turn-holds
 turn-holds g c =
