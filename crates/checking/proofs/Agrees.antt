@@ -6,7 +6,7 @@ use Prim.Native.Nat.{ℕ, zero, suc, _+_, _<_, _≤_}
 use native.Mathlib.Omega.{arith}
 use lib.ListN.{length}
 use Rattle.std.specs.declared.result.Result.the-variants.{Ok, Err}
-use Rattle.levels.specs.Meaning.{Meaning, Same-answers}
+use Rattle.levels.specs.Meaning.{Meaning}
 use Rattle.rows.specs.declared.process.ProcessRow.{ProcessRow}
 use Rattle.rows.specs.Processes.{row, end-of}
 use Rattle.rows.specs.Tables.{Tables}
@@ -24,7 +24,7 @@ use Rattle.typing.proofs.Decided.{typed-from, typed-to}
 use Rattle.checking.specs.declared.refusal.Refusal.{Refusal}
 use Rattle.checking.specs.declared.refusal.Refusal.the-variants.{Shape, Typing}
 use Rattle.checking.specs.Verdict.{follow, check-from, free-names, rules, then-rules, verdict}
-use Rattle.checking.specs.Theorems.{Well-typed, Decides, By-answers}
+use Rattle.checking.specs.Theorems.{Well-typed, Decides}
 use Rattle.checking.proofs.Pending.{Next-of, next-of}
 
 no-refusal : (e : Refusal) → _≡_ {A = Passes Refusal} (Err e) (Ok tt) → ⊥
@@ -88,10 +88,3 @@ module _ (m : Meaning) (T : Tables) where
     sound = λ a. well-typed (shape m T) refl (sym e ∙ a);
     complete = λ w. e ∙ ap (λ x. then-rules x (rules m T)) (w .in-shape) ∙ accepts (length ps) (free-names T) 0 (w .typed);
   }
-
--- equal answers are equal meanings
-same-meaning : (m n : Meaning) → Same-answers m n → m ≡ n
-same-meaning m n s = λ i. record { level = λ a. s .level a i; below = λ a b. s .below a b i; meet = λ a b. s .meet a b i; opened = s .opened i }
-
-pub by-answers : (m : Meaning) (T : Tables) (r : Passes Refusal) → r ≡ verdict m T → By-answers m T r
-by-answers m T r e n s = e ∙ ap (λ x. verdict x T) (same-meaning m n s)

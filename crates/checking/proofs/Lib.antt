@@ -3,3 +3,4 @@ pub mod Weight
 pub mod Pending
 pub mod Turn
 pub mod Agrees
+pub mod SameAnswers

@@ -1,7 +1,7 @@
 -- What the verdict means.
 use mathlib.Core.Path.{_≡_}
 use Rattle.std.specs.declared.result.Result.the-variants.{Ok}
-use Rattle.levels.specs.Meaning.{Meaning, Same-answers}
+use Rattle.levels.specs.Meaning.{Meaning, Lawful, Same-answers}
 use Rattle.rows.specs.Tables.{Tables}
 use Rattle.shape.specs.First.{Passes}
 use Rattle.shape.specs.Whole.{shape}
@@ -19,6 +19,6 @@ pub record Decides (m : Meaning) (T : Tables) (v : Passes Refusal) : Type 0 wher
   pub sound : v ≡ Ok tt → Well-typed m T
   pub complete : Well-typed m T → v ≡ Ok tt
 
--- a scheme with the same four answers gives the same verdict
+-- any scheme with the same four answers gives the same verdict
 abbrev pub By-answers : Meaning → Tables → Passes Refusal → Type 0
-By-answers m T v = (n : Meaning) → Same-answers m n → v ≡ verdict n T
+By-answers m T v = (n : Meaning) → Lawful n → Same-answers m n → v ≡ verdict n T

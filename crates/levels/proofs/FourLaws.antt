@@ -11,6 +11,7 @@ use Rattle.levels.proofs.Gated.{Ordered, lawful}
 
 ordered : Ordered four-level within bitAnd 1
 ordered = record {
+  small = λ a h. omega (arith, ltb-true a 4 h);
   open-in = refl;
   reflects = within-refl;
   anti = within-anti;

@@ -1,12 +1,13 @@
 -- The laws of a scheme, from those of its order and its meet on the levels.
 use mathlib.Core.Path.{_≡_, refl, sym}
 use mathlib.Core.Bool.{Bool, true, false, _&&_, cond}
-use Prim.Native.Nat.{ℕ}
+use Prim.Native.Nat.{ℕ, _<_}
 use Rattle.std.proofs.shelf.Tests.{and-parts, and-from, cond-true, cond-false}
 use Rattle.levels.specs.Meaning.{Meaning, Lawful, gated, gated-meet}
 
 -- an order r and a meet m on the levels l, with the open level o
 pub record Ordered (l : ℕ → Bool) (r : ℕ → ℕ → Bool) (m : ℕ → ℕ → ℕ) (o : ℕ) : Type 0 where
+  pub small : (a : ℕ) → l a ≡ true → a < 65536
   pub open-in : l o ≡ true
   pub reflects : (a : ℕ) → r a a ≡ true
   pub anti : (a b : ℕ) → r a b ≡ true → r b a ≡ true → a ≡ b
@@ -35,6 +36,7 @@ module _ (l : ℕ → Bool) (r : ℕ → ℕ → Bool) (m : ℕ → ℕ → ℕ)
   pub lawful : Ordered l r m o → Lawful (scheme-of l r m o)
   lawful k =
       record {
+        bounded = k .small;
         open-is-level = k .open-in;
         below-levels = both;
         reflexive = λ a h. from a a h h (k .reflects a);

@@ -16,6 +16,7 @@ pub lawful : {M : Type 1} {𝓤 : URA.URA M} {H : Wp.Heap 𝓤} {𝓜 : Model.Mo
     {S : RattleType.RattleType} {d : Ghosts (S .Denot)} {dict : Syntax.Dict} → Met 𝓤 H 𝓜 𝓖 𝓡 γ S d dict → (s : S .Denot) → Lawful (means d s)
 lawful met s =
     record {
+      bounded = met .bounded s;
       open-is-level = met .«open_is_level» s;
       below-levels = met .«below_levels» s;
       reflexive = met .reflexive s;

@@ -4,7 +4,7 @@ use mathlib.Core.Bool.{Bool, true, _&&_}
 use Prim.Native.Nat.{ℕ, _+_, _-_, _*_, _/_, _%_, _^_, _<_, _≤_}
 use native.Mathlib.Omega.{arith}
 use lib.Bits.{bitAnd, bitOr, and-le-l}
-use lib.Pow.{pow-add}
+use lib.Pow.{pow-add, pow-mono}
 use Rattle.std.proofs.shelf.Bits.{pow-pos, or-lt, shr-split, div-mul-add, mod-mul-add, mod-below, shr-below, mul-add-lt}
 use Rattle.std.proofs.shelf.Tests.{lt-ltb, ltb-true, and-parts, and-from}
 use Rattle.levels.specs.Masks.{within}
@@ -41,8 +41,12 @@ module _ (n : ℕ) where
   wider-writers : (a b : ℕ) → wider n a b ≡ true → within (writers n a) (writers n b) ≡ true
   wider-writers a b h = and-parts (within (readers n b) (readers n a)) (within (writers n a) (writers n b)) h .1
 
-  ordered : Ordered (party-level n) (wider n) (joint n) (party-open n)
-  ordered = record {
+  sixteen : n ≤ 8 → 2 ^ (n + n) ≤ 65536
+  sixteen few = let h : n + n ≤ 16 = omega arith in pow-mono {i = n + n} {j = 16} h
+
+  ordered : n ≤ 8 → Ordered (party-level n) (wider n) (joint n) (party-open n)
+  ordered few = record {
+    small = λ a h. omega (arith, ltb-true a (2 ^ (n + n)) h, sixteen few);
     open-in = lt-ltb (party-open n) (2 ^ (n + n)) (omega (arith, pow-pos (n + n)));
     reflects = λ a. wider-from a a (within-refl (readers n a)) (within-refl (writers n a));
     anti = λ a b p q.
@@ -70,5 +74,5 @@ module _ (n : ℕ) where
         (rw (joint-writers a b) (and-greatest (writers n a) (writers n b) (writers n c) (wider-writers c a p) (wider-writers c b q)));
   }
 
-  pub party-laws : Lawful (parties n)
-  party-laws = lawful (party-level n) (wider n) (joint n) (party-open n) ordered
+  pub party-laws : n ≤ 8 → Lawful (parties n)
+  party-laws few = lawful (party-level n) (wider n) (joint n) (party-open n) (ordered few)

@@ -1,7 +1,7 @@
 -- What a level scheme means, as one value, and the laws that it keeps.
 use mathlib.Core.Path.{_≡_}
 use mathlib.Core.Bool.{Bool, true, false, not, _&&_, cond}
-use Prim.Native.Nat.{ℕ}
+use Prim.Native.Nat.{ℕ, _<_}
 
 -- the four answers
 pub record Meaning : Type 0 where
@@ -12,6 +12,7 @@ pub record Meaning : Type 0 where
 
 -- the laws: they are those of the trait, for one meaning
 pub record Lawful (m : Meaning) : Type 0 where
+  pub bounded : (a : ℕ) → m .level a ≡ true → a < 65536
   pub open-is-level : m .level (m .opened) ≡ true
   pub below-levels : (a b : ℕ) → m .below a b ≡ true → (m .level a ≡ true) × (m .level b ≡ true)
   pub reflexive : (a : ℕ) → m .level a ≡ true → m .below a a ≡ true
@@ -35,11 +36,11 @@ guarded m a = m .level a && (not (public m a) && not (tainted m a))
 abbrev pub Lowers : Meaning → Type 0
 Lowers m = (a : ℕ) → guarded m a ≡ true → (public m (m .meet a (m .opened)) ≡ true) × (tainted m (m .meet a (m .opened)) ≡ false)
 
--- two schemes give the same four answers
+-- two schemes give the same four answers to every question that can be asked
 pub record Same-answers (m n : Meaning) : Type 0 where
-  pub level : (a : ℕ) → m .level a ≡ n .level a
-  pub below : (a b : ℕ) → m .below a b ≡ n .below a b
-  pub meet : (a b : ℕ) → m .meet a b ≡ n .meet a b
+  pub level : (a : ℕ) → a < 65536 → m .level a ≡ n .level a
+  pub below : (a b : ℕ) → a < 65536 → b < 65536 → m .below a b ≡ n .below a b
+  pub meet : (a b : ℕ) → a < 65536 → b < 65536 → m .meet a b ≡ n .meet a b
   pub opened : m .opened ≡ n .opened
 
 -- A scheme from an order and a meet that are right on levels: for a number that is no level, below says no and meet says open.

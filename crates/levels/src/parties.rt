@@ -1,4 +1,3 @@
-ghost use mathlib.Core.Path.{_≡_};
 ghost use Prim.Native.Nat.{_≤_};
 
 /// A scheme of `count` parties, 1 to 8: each level is a set of readers and a set of writers.

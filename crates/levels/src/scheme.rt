@@ -1,6 +1,6 @@
 ghost use mathlib.Core.Path.{_≡_};
 ghost use mathlib.Core.Bool.{Bool, true, false, _&&_};
-ghost use Prim.Native.Nat.{ℕ};
+ghost use Prim.Native.Nat.{ℕ, _<_};
 
 /// A level scheme: a set of levels, an order on them, their meets and one open level.
 ///
@@ -18,6 +18,9 @@ pub trait Scheme {
 
     /// the level of what everybody may read and write
     ghost opened: { Self → ℕ };
+
+    // level numbers have sixteen bits
+    law bounded: { (s : Self) (a : ℕ) → levels s a ≡ true → a < 65536 };
 
     law open_is_level: { (s : Self) → levels s (opened s) ≡ true };
 

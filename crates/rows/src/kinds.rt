@@ -45,7 +45,8 @@ impl ProcessKind {
     }
 }
 
-fn same_four(a: &[u16; 4], b: &[u16; 4]) -> bool
+/// Whether two lists of four numbers are equal, entry by entry.
+pub fn same_four(a: &[u16; 4], b: &[u16; 4]) -> bool
     ensures { λ r. ⌜ r ≡ same-list (now (a .entry)) (now (b .entry)) ⌝ }
 {
     if a[0] != b[0] {

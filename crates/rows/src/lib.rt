@@ -6,6 +6,7 @@ mod process;
 mod term;
 mod types;
 
+pub use kinds::same_four;
 pub use listing::Listing;
 pub use process::ProcessKind;
 pub use process::ProcessRow;

@@ -43,7 +43,7 @@ module _ (m : Meaning) (ts : List TypeRow) where
   abbrev pub Declared-use : TypeKind → ℕ → TypeRow → List TypeRow → Type 0
   Declared-use asked n k parts = (k .kind ≡ asked) × (k .count ≡ n) × All-fit (k .payload) parts
 
-  -- k is used as open: it and the parts are public
+  -- k is used as open: not as declared, and it and the parts are public
   abbrev pub Open-use : TypeKind → ℕ → TypeRow → List TypeRow → Type 0
   Open-use asked n k parts = (Declared-use asked n k parts → ⊥) × Public k × All-public parts
 

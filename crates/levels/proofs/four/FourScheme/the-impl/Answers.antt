@@ -1,6 +1,9 @@
 use Rattle.levels.proofs.FourLaws.{four-laws}
 use Rattle.levels.proofs.four.FourScheme.the-impl.Needs as need
 
+pub bounded-law : need.bounded-law
+bounded-law s = four-laws .bounded
+
 pub open-is-level-law : need.open-is-level-law
 open-is-level-law s = four-laws .open-is-level
 
