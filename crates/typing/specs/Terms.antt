@@ -2,7 +2,7 @@
 use mathlib.Core.Bool.{Bool, true, false, cond}
 use mathlib.Core.List.{List, [], _∷_, _++_, map}
 use Prim.Native.Nat.{ℕ}
-use lib.ListN.{take}
+use lib.ListN.{length, take, drop}
 use Rattle.std.specs.declared.result.Result.{Result}
 use Rattle.std.specs.declared.result.Result.the-variants.{Ok, Err}
 use Rattle.levels.specs.Meaning.{Meaning}
@@ -77,6 +77,19 @@ and-then (Err e) f = Err e
 abbrev pub types-of-run : Meaning → List TypeRow → List ℕ → List TermRow → List TypeRow → Result (List TypeRow) Misuse
 types-of-run m ts Γ [] earlier = Ok earlier
 types-of-run m ts Γ (t ∷ run) earlier = and-then (type-of-term m ts Γ earlier t) (λ u. types-of-run m ts Γ run (earlier ++ (u ∷ [])))
+
+-- the types of the terms before the first that has none
+abbrev pub up-to : {E : Type 0} → Result TypeRow E → List TypeRow → (TypeRow → List TypeRow) → List TypeRow
+up-to (Ok u) earlier f = f u
+up-to (Err e) earlier f = earlier
+
+abbrev pub types-before : Meaning → List TypeRow → List ℕ → List TermRow → List TypeRow → List TypeRow
+types-before m ts Γ [] earlier = earlier
+types-before m ts Γ (t ∷ run) earlier = up-to (type-of-term m ts Γ earlier t) earlier (λ u. types-before m ts Γ run (earlier ++ (u ∷ [])))
+
+-- a list written over the front of another
+abbrev pub over : {X : Type 0} → List X → List X → List X
+over xs ys = xs ++ drop (length xs) ys
 
 -- an answer together with what a buffer holds
 abbrev pub told : {A E : Type 0} → Result (Unit {0}) E → A → Result A E

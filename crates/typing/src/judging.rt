@@ -1,9 +1,11 @@
 ghost use mathlib.Core.Path.{_≡_};
+ghost use mathlib.Core.List.{[]};
 ghost use Prim.Native.Nat.{ℕ, _≤_};
 ghost use lib.ListN.{length, take};
 ghost use Rattle.levels.specs.Means.{means};
 ghost use Rattle.rows.specs.Tables.{tables};
 ghost use Rattle.rows.specs.Processes.{run-of};
+ghost use Rattle.typing.specs.Terms.{types-before, over};
 ghost use Rattle.typing.specs.Judging.{sent-types, by-use, judge, reading};
 ghost use Rattle.rows.specs.declared.process.ProcessKind.the-variants.{Out};
 use crate::fitting::types_at;
@@ -111,7 +113,8 @@ pub fn judge_row<S: Scheme>(
     p: ProcessRow,
     seen: &mut [TypeRow],
 ) -> Judgement
-    ensures { λ r. ⌜ r ≡ reading (means S·Scheme (now (s .entry))) (tables (l .entry) .types) (now (env .entry)) (take (length (now (seen .entry))) (run-of (tables (l .entry) .terms) p)) p ⌝ }
+    ensures says { λ r. ⌜ r ≡ reading (means S·Scheme (now (s .entry))) (tables (l .entry) .types) (now (env .entry)) (take (length (now (seen .entry))) (run-of (tables (l .entry) .terms) p)) p ⌝ }
+    ensures wrote { λ _. ⌜ now (seen .exit) ≡ over (types-before (means S·Scheme (now (s .entry))) (tables (l .entry) .types) (now (env .entry)) (take (length (now (seen .entry))) (run-of (tables (l .entry) .terms) p)) []) (now (seen .entry)) ⌝ }
 {
     let run = p.run(l.terms);
     match type_run(s, l.types, env, run, seen) {

@@ -4,7 +4,7 @@ ghost use Prim.Native.Nat.{ℕ, _≤_};
 ghost use lib.ListN.{length, take};
 ghost use Rattle.levels.specs.Means.{means};
 ghost use Rattle.rows.specs.Types.{plain};
-ghost use Rattle.typing.specs.Terms.{key-type, signature-level, parts-of, made, derived, enciphered, signed, type-of-term, types-of-run, told};
+ghost use Rattle.typing.specs.Terms.{key-type, signature-level, parts-of, made, derived, enciphered, signed, type-of-term, types-of-run, types-before, over, told};
 use crate::fitting::number_at;
 use crate::fitting::parts_public;
 use crate::fitting::types_at;
@@ -118,7 +118,8 @@ pub fn type_run<S: Scheme>(
     run: &[TermRow],
     seen: &mut [TypeRow],
 ) -> Result<(), Misuse>
-    ensures { λ r. ⌜ told r (take (length (now (run .entry))) (now (seen .exit))) ≡ types-of-run (means S·Scheme (now (s .entry))) (now (types .entry)) (now (env .entry)) (take (length (now (seen .entry))) (now (run .entry))) [] ⌝ }
+    ensures says { λ r. ⌜ told r (take (length (now (run .entry))) (now (seen .exit))) ≡ types-of-run (means S·Scheme (now (s .entry))) (now (types .entry)) (now (env .entry)) (take (length (now (seen .entry))) (now (run .entry))) [] ⌝ }
+    ensures wrote { λ _. ⌜ now (seen .exit) ≡ over (types-before (means S·Scheme (now (s .entry))) (now (types .entry)) (now (env .entry)) (take (length (now (seen .entry))) (now (run .entry))) []) (now (seen .entry)) ⌝ }
 {
     let n = run.len().min(seen.len());
     for k in 0..n {

@@ -44,17 +44,17 @@ enter-requires-in-Opens g c κs =
 pub index-stack-top : need.index-stack-top
 index-stack-top g c =
     let h : c .turn .i < limit-at (c .args .l .processes .now) (c .turn .stack) (c .turn .top) = omega (arith, c .stop-at .ensures, c .if-i-stop-at .taken) in
-    space (c .turn .inv) h (c .in-Opens .new) (c .in-Opens .again) (read-by (c .turn .inv) h (Opens (c .in-Opens .new) (c .in-Opens .again)) (c .in-Opens .ensures tt))
+    space (c .turn .inv) h (c .in-Opens .new) (c .in-Opens .again) (read-by (c .turn .inv) h (Opens (c .in-Opens .new) (c .in-Opens .again)) (c .in-Opens .ensures tt .says))
 
 pub index-due-top : need.index-due-top
 index-due-top g c =
     let h : c .turn .i < limit-at (c .args .l .processes .now) (c .turn .stack) (c .turn .top) = omega (arith, c .stop-at .ensures, c .if-i-stop-at .taken) in
-    space (c .turn .inv) h (c .in-Opens .new) (c .in-Opens .again) (read-by (c .turn .inv) h (Opens (c .in-Opens .new) (c .in-Opens .again)) (c .in-Opens .ensures tt))
+    space (c .turn .inv) h (c .in-Opens .new) (c .in-Opens .again) (read-by (c .turn .inv) h (Opens (c .in-Opens .new) (c .in-Opens .again)) (c .in-Opens .ensures tt .says))
 
 pub returns-in-Refuses : need.returns-in-Refuses
 returns-in-Refuses g c =
     let h : c .turn .i < limit-at (c .args .l .processes .now) (c .turn .stack) (c .turn .top) = omega (arith, c .stop-at .ensures, c .if-i-stop-at .taken) in
-    on-refuses (c .turn .inv) h (c .in-Refuses .misuse) (read-by (c .turn .inv) h (Refuses (c .in-Refuses .misuse)) (c .in-Refuses .ensures tt))
+    on-refuses (c .turn .inv) h (c .in-Refuses .misuse) (read-by (c .turn .inv) h (Refuses (c .in-Refuses .misuse)) (c .in-Refuses .ensures tt .says))
 
 pub turn-less-then-i-stop-at : need.turn-less-then-i-stop-at
 turn-less-then-i-stop-at g c =
@@ -66,7 +66,7 @@ turn-less-then-i-stop-at g c =
       | in-Binds w ↦ weight-as _ _ _ (w .top-is) (w .stack-is) (w .due-is) (falls t h)
       | in-Opens w ↦
           weight-as _ _ _ (w .top-is) (w .stack-is) (w .due-is)
-          (falls-opens t h (w .in-Opens .new) (w .in-Opens .again) (read-by t h (Opens (w .in-Opens .new) (w .in-Opens .again)) (w .in-Opens .ensures tt)))
+          (falls-opens t h (w .in-Opens .new) (w .in-Opens .again) (read-by t h (Opens (w .in-Opens .new) (w .in-Opens .again)) (w .in-Opens .ensures tt .says)))
     ]
 
 pub turn-again-then-i-stop-at : need.turn-again-then-i-stop-at
@@ -74,15 +74,15 @@ turn-again-then-i-stop-at g c =
     let h : c .turn .i < limit-at (c .args .l .processes .now) (c .turn .stack) (c .turn .top) = omega (arith, c .stop-at .ensures, c .if-i-stop-at .taken) in
     let t = c .turn .inv in
     elim (c .match-judge-row .came) [
-      | in-Done w ↦ turn-as (w .env-is) (w .top-is) (w .stack-is) (w .due-is) (c .judge-row .kept .seen) (on-done t h (read-by t h Done (w .in-Done .ensures tt)))
-      | in-Splits w ↦ turn-as (w .env-is) (w .top-is) (w .stack-is) (w .due-is) (c .judge-row .kept .seen) (on-splits t h (read-by t h Splits (w .in-Splits .ensures tt)))
+      | in-Done w ↦ turn-as (w .env-is) (w .top-is) (w .stack-is) (w .due-is) (c .judge-row .kept .seen) (on-done t h (read-by t h Done (w .in-Done .ensures tt .says)))
+      | in-Splits w ↦ turn-as (w .env-is) (w .top-is) (w .stack-is) (w .due-is) (c .judge-row .kept .seen) (on-splits t h (read-by t h Splits (w .in-Splits .ensures tt .says)))
       | in-Binds w ↦
           turn-as (w .env-is) (w .top-is) (w .stack-is) (w .due-is) (c .judge-row .kept .seen)
-          (on-binds t h (w .enter .last .env) (w .in-Binds .new) (read-by t h (Binds (w .in-Binds .new)) (w .in-Binds .ensures tt))
+          (on-binds t h (w .enter .last .env) (w .in-Binds .new) (read-by t h (Binds (w .in-Binds .new)) (w .in-Binds .ensures tt .says))
           (record { below = w .enter .ensures .below; within = w .enter .ensures .within }) (w .enter .kept .env))
       | in-Opens w ↦
           turn-as (w .env-is) (w .top-is) (w .stack-is) (w .due-is) (c .judge-row .kept .seen)
-          (on-opens t h (w .enter-in-Opens .last .env) (w .in-Opens .new) (w .in-Opens .again) (read-by t h (Opens (w .in-Opens .new) (w .in-Opens .again)) (w .in-Opens .ensures tt))
+          (on-opens t h (w .enter-in-Opens .last .env) (w .in-Opens .new) (w .in-Opens .again) (read-by t h (Opens (w .in-Opens .new) (w .in-Opens .again)) (w .in-Opens .ensures tt .says))
           (record { below = w .enter-in-Opens .ensures .below; within = w .enter-in-Opens .ensures .within }) (w .enter-in-Opens .kept .env))
     ]
 
