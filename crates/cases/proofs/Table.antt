@@ -10,7 +10,7 @@ marked-cases =
     record {
       four-levels = (refl, refl, refl);
       three-parties = (refl, refl, refl);
-      signature-by-payload = (refl, refl);
+      signature-by-payload = (refl, refl, refl);
       encryption-by-payload = (refl, refl);
       encrypted-secret-is-accepted = refl;
       published-secret-is-refused = refl;

@@ -1,16 +1,15 @@
 -- Ten cases of the definitions. From the third on the levels are the four.
 use mathlib.Core.Path.{_≡_}
-use mathlib.Core.Bool.{Bool, true, false}
+use mathlib.Core.Bool.{true, false}
 use mathlib.Core.List.{List, [], _∷_, _++_}
 use Prim.Native.Nat.{ℕ, _-_}
 use lib.ListN.{length, replicate}
-use Rattle.std.specs.declared.result.Result.{Result}
 use Rattle.std.specs.declared.result.Result.the-variants.{Ok, Err}
-use Rattle.levels.specs.Meaning.{Meaning, public, guarded}
+use Rattle.levels.specs.Meaning.{public, guarded}
 use Rattle.levels.specs.Four.{four}
 use Rattle.levels.specs.Party.{parties}
 use Rattle.rows.specs.declared.types.TypeKind.{TypeKind}
-use Rattle.rows.specs.declared.types.TypeKind.the-variants.{Level, Chan, Sym, Dec, Enc, Sig}
+use Rattle.rows.specs.declared.types.TypeKind.the-variants.{Chan, Sym, Dec, Enc, Sig}
 use Rattle.rows.specs.declared.types.TypeRow.{TypeRow}
 use Rattle.rows.specs.declared.process.ProcessKind.{ProcessKind}
 use Rattle.rows.specs.declared.process.ProcessKind.the-variants.{Stop, Out, In, New, Aopen, Verify}
@@ -121,13 +120,14 @@ types = plain 1 ∷ plain 2 ∷ plain 3 ∷ []
 pub record Marked-cases : Type 0 where
   -- the order goes by bits
   pub four-levels : (four .below 0 1 ≡ true) × (four .below 2 1 ≡ false) × (four .meet 2 1 ≡ 0)
-  -- readers {0, 1}, writers {0, 1}; with open they are all readers and writers {0, 1}
+  -- 27: two readers and two writers; its meet with the open level has all readers and the same writers
   pub three-parties : (guarded (parties 3) 27 ≡ true) × (parties 3 .meet 27 63 ≡ 59) × (public (parties 3) 59 ≡ true)
-  -- a signature is lowered only where the payload type of its key is public
+  -- a signature is lowered only where the payload type of its key is public, whatever is signed
   pub signature-by-payload :
       (signed four types (declared Sig 2 (2 ∷ [])) (plain 3 ∷ []) 1 ≡ Ok (plain 2))
+      × (signed four types (declared Sig 2 (2 ∷ [])) (plain 1 ∷ []) 1 ≡ Ok (plain 2))
       × (signed four types (declared Sig 2 (0 ∷ [])) (plain 1 ∷ []) 1 ≡ Ok (plain 0))
-  -- a payload that fits the key's is a declared use, and an open one an open use
+  -- a secret payload is a declared use of the encryption key, and an open one an open use
   pub encryption-by-payload :
       (enciphered four types (key-type four Enc (declared Dec 2 (1 ∷ []))) Enc (plain 2 ∷ []) 1 ≡ Ok (plain 0))
       × (enciphered four types (key-type four Enc (declared Dec 2 (1 ∷ []))) Enc (plain 1 ∷ []) 1 ≡ Ok (plain 1))

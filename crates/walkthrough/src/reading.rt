@@ -1,3 +1,8 @@
+ghost use mathlib.Core.Path.{_≡_};
+ghost use Prim.Native.Nat.{_+_, _-_, _≤_};
+ghost use lib.ListN.{take};
+ghost use Rattle.rows.specs.Processes.{adds};
+ghost use Rattle.typing.specs.Judging.{extended};
 use crate::report::show_bound;
 use crate::report::show_row;
 use crate::report::show_verdict;
@@ -24,20 +29,23 @@ struct Step {
 // 512 rows, each read up to 64 times: twice for each of six aopens above it.
 const TURNS: u32 = 40_000;
 
-// The slots after a row, where the new ones have these type rows.
-fn entered(slots: [u16; 32], row: ProcessRow, new: [u16; 4]) -> [u16; 32] {
+// The slots after a row, where the new ones have these type rows; as they were where there is no room.
+fn entered(slots: [u16; 32], row: ProcessRow, new: [u16; 4]) -> [u16; 32]
+    ensures { λ r. ⌜ (row .slots + adds row ≤ 32 → adds row ≤ 4 → take (row .slots + adds row) r ≡ extended row (take (row .slots) slots) new) ⌝ }
+{
     let mut after = slots;
     let from = row.slots as usize;
-    for k in 0..row.added().min(4) as usize {
-        if from + k < 32 {
-            after[from + k] = new[k];
-        }
+    let n = row.added() as usize;
+    if n <= 4 && from + n <= 32 {
+        after[from..from + n].copy_from_slice(&new[0..n]);
     }
     after
 }
 
 // The row before one.
-fn before(row: u16) -> u16 {
+fn before(row: u16) -> u16
+    ensures { λ r. ⌜ r ≡ row - 1 ⌝ }
+{
     row.saturating_sub(1)
 }
 
