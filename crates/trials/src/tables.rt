@@ -7,6 +7,7 @@ use rows::TermRow;
 use rows::TypeKind;
 use rows::TypeRow;
 
+#[cfg(test)]
 pub(crate) fn level(a: u16) -> TypeRow {
     TypeRow::plain(a)
 }

@@ -5,6 +5,7 @@ use rows::Listing;
 use std::test::Fail;
 use std::test::check_eq;
 
+#[cfg(test)]
 // The listing is accepted.
 pub(crate) fn accepts<S: Scheme>(s: &S, l: Listing) -> Result<(), Fail> {
     match check(s, l) {

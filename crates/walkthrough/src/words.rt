@@ -1,9 +1,13 @@
+ghost use mathlib.Core.Path.{_≡_};
+ghost use Rattle.walkthrough.specs.Words.{process-word, type-word};
 use rows::ProcessKind;
 use rows::TypeKind;
 use rows::TypeRow;
 use std::fmt;
 
-fn type_word(kind: TypeKind) -> &'static str {
+fn type_word(kind: TypeKind) -> &'static str
+    ensures { λ r. ⌜ now r ≡ type-word kind ⌝ }
+{
     match kind {
         TypeKind::Level => "level",
         TypeKind::Chan => "chan",
@@ -15,7 +19,10 @@ fn type_word(kind: TypeKind) -> &'static str {
     }
 }
 
-pub(crate) fn process_word(kind: ProcessKind) -> &'static str {
+// The word of a row's kind.
+pub(crate) fn process_word(kind: ProcessKind) -> &'static str
+    ensures { λ r. ⌜ now r ≡ process-word kind ⌝ }
+{
     match kind {
         ProcessKind::Stop => "stop",
         ProcessKind::Out => "out",

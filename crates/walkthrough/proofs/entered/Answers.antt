@@ -6,7 +6,7 @@ use borrow.Author.Needs.{needs}
 use lib.ListN.{length, take, length-take}
 use Rattle.std.proofs.shelf.Parts.{take-putMid}
 use Rattle.rows.specs.Processes.{adds}
-use Rattle.walkthrough.proofs.reading.entered.Needs as need
+use Rattle.walkthrough.proofs.entered.Needs as need
 
 pub returns-then-from-n-le32 : need.returns-then-from-n-le32
 returns-then-from-n-le32 c room few =
