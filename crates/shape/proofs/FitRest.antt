@@ -1,13 +1,14 @@
 -- One more number of a list looked at: what its rest still has to be.
-use mathlib.Core.Path.{_≡_, ap, ap₂, _∙_}
+use mathlib.Core.Path.{_≡_, sym, ap, ap₂, _∙_}
 use mathlib.Core.Bool.{false, _&&_}
-use mathlib.Core.List.{List}
+use mathlib.Core.Logic.{⊎-elim}
+use mathlib.Core.List.{List, []}
 use Prim.Native.Nat.{ℕ, suc, _+_, _-_, _<_, _≤_}
 use native.Mathlib.Omega.{arith}
-use lib.Dec.{ltb, eqb}
+use lib.Dec.{ltb, leb, eqb}
 use lib.ListN.{length, getD, drop}
-use Rattle.std.proofs.shelf.Lists.{drop-more}
-use Rattle.std.proofs.shelf.Tests.{lt-ltb, le-ltb, eq-eqb, ne-eqb, and-left}
+use Rattle.std.proofs.shelf.Lists.{drop-more, drop-all}
+use Rattle.std.proofs.shelf.Tests.{lt-ltb, le-ltb, le-leb, lt-leb, cases-lt, eq-eqb, ne-eqb, and-left}
 use Rattle.shape.specs.Numbers.{numbers-fit}
 
 module _ (b n k : ℕ) (xs : List ℕ) (h : k < length xs) where
@@ -32,3 +33,16 @@ module _ (b n k : ℕ) (xs : List ℕ) (h : k < length xs) where
 
   pub unused-bad : n ≤ k → (getD xs k 0 ≡ 0 → ⊥) → numbers-fit b (n - k) (drop k xs) ≡ false
   unused-bad a c = fit-unused a ∙ and-left (eqb (getD xs k 0) 0) (numbers-fit b (n - (k + 1)) (drop (k + 1) xs)) (ne-eqb (getD xs k 0) 0 c)
+
+-- at the end no number in use may be missing
+pub fit-none : (b n k : ℕ) (xs : List ℕ) → length xs ≤ k → k ≤ length xs → numbers-fit b (n - k) (drop k xs) ≡ leb n (length xs)
+fit-none b n k xs h h' =
+    ap (numbers-fit b (n - k)) (drop-all k xs h)
+    ∙ ⊎-elim
+    (λ lt.
+    let e : n - k ≡ suc (n - suc k) = omega arith in
+    ap (λ x. numbers-fit b x []) e ∙ sym (lt-leb n (length xs) (omega arith)))
+    (λ ge.
+    let e : n - k ≡ 0 = omega arith in
+    ap (λ x. numbers-fit b x []) e ∙ sym (le-leb n (length xs) (omega arith)))
+    (cases-lt (length xs) n)

@@ -1,9 +1,9 @@
 -- The process rows of tables that pass the shape test are in the form that a walk over them uses.
 use mathlib.Core.Path.{_≡_, refl, sym, ap, _∙_}
-use mathlib.Core.Bool.{true, not, _||_, cond}
+use mathlib.Core.Bool.{true, not, _||_}
 use Prim.Native.Nat.{ℕ, _+_, _<_, _≤_}
 use native.Mathlib.Omega.{arith}
-use lib.Dec.{ltb, leb, eqb}
+use lib.Dec.{ltb, leb}
 use lib.ListN.{length}
 use Rattle.std.specs.declared.result.Result.the-variants.{Ok}
 use Rattle.std.proofs.shelf.Tests.{and-parts, ltb-true, leb-true, eqb-true}
@@ -13,12 +13,12 @@ use Rattle.rows.specs.declared.process.ProcessKind.the-variants.{Stop, Out, In,
 use Rattle.rows.specs.Processes.{row, end-of, slots-of, adds, adds-by}
 use Rattle.rows.specs.Tables.{Tables}
 use Rattle.shape.specs.Numbers.{one-to-four}
-use Rattle.shape.specs.Processes.{ty-ok, process-count-ok, operands-ok, run-ok, family-ok}
+use Rattle.shape.specs.Processes.{process-count-ok, family-ok}
 use Rattle.shape.specs.Depth.{is-aopen, enclosing}
 use Rattle.shape.specs.Tree.{children}
 use Rattle.shape.specs.Whole.{shape}
 use Rattle.shape.proofs.Shaped.{One, Two, Family, Shaped}
-use Rattle.shape.proofs.Passed.{Passed, passed}
+use Rattle.shape.proofs.Passed.{Passed, passed, Own, own}
 use Rattle.shape.proofs.Ends.{Kids, none, one, two, kids, within}
 use Rattle.shape.proofs.Enclosed.{first-depth, second-depth}
 
@@ -51,22 +51,8 @@ adds-none Aopen n e = absurd (let z : ⊥ = omega arith in z)
 adds-none Verify n e = absurd (let z : ⊥ = omega arith in z)
 
 module _ (T : Tables) (ok : Passed T) where
-  record Parts (i : ℕ) : Type 0 where
-    count : process-count-ok (row (T .processes) i .count) (row (T .processes) i .kind) ≡ true
-    room : slots-of (T .processes) i ≤ 32
-    family : family-ok (T .processes) i (row (T .processes) i .kind) ≡ true
-    last : cond (eqb i 0) (eqb (end-of (T .processes) i) (length (T .processes))) true ≡ true
-
-  parts : (i : ℕ) → i < length (T .processes) → Parts i
-  parts i h =
-      let p = row (T .processes) i in
-      let a = and-parts (ty-ok (T .types) p (p .kind)) _ (ok .rows-ok i h) in
-      let b = and-parts (process-count-ok (p .count) (p .kind)) _ (a .1) in
-      let c = and-parts (operands-ok p) _ (b .1) in
-      let d = and-parts (run-ok T i) _ (c .1) in
-      let e = and-parts (leb (p .slots) 32) _ (d .1) in
-      let f = and-parts (family-ok (T .processes) i (p .kind)) _ (e .1) in
-      record { count = b .0; room = leb-true _ _ (e .0); family = f .0; last = f .1 }
+  parts : (i : ℕ) → i < length (T .processes) → Own T i
+  parts = own T ok
 
   fam : (i : ℕ) → i < length (T .processes) → Kids (T .processes) i (children (row (T .processes) i .kind))
   fam i h = kids (T .processes) i (row (T .processes) i .kind) (parts i h .family)

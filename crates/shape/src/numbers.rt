@@ -3,7 +3,7 @@ ghost use mathlib.Core.Bool.{_&&_};
 ghost use lib.Dec.{leb};
 ghost use Rattle.shape.specs.Numbers.{numbers-fit, one-to-four};
 
-// The first `used` numbers are below the bound, and the others are zero.
+// The first `used` numbers are there and below the bound, and the others are zero.
 pub(crate) fn numbers_fit(numbers: &[u16], used: usize, bound: usize) -> bool
     ensures { λ r. ⌜ r ≡ numbers-fit bound used (now (numbers .entry)) ⌝ }
 {
@@ -16,7 +16,7 @@ pub(crate) fn numbers_fit(numbers: &[u16], used: usize, bound: usize) -> bool
             return false;
         }
     }
-    true
+    used <= numbers.len()
 }
 
 pub(crate) fn is_one_to_four(count: u16) -> bool

@@ -8,7 +8,7 @@ use Rattle.typing.specs.Fits.{Transitive}
 use Rattle.typing.specs.Rules.{Fits}
 use Rattle.typing.proofs.Relations.{fits-out, fits-back}
 
-chained : (m : Meaning) → Lawful m → (t u v : TypeRow) → Fits m [] t u → Fits m [] u v → Fits m [] t v
+pub chained : (m : Meaning) → Lawful m → (t u v : TypeRow) → Fits m [] t u → Fits m [] u v → Fits m [] t v
 chained m laws t u v (inl e) q = subst (λ (x : TypeRow). Fits m [] x v) (sym e) q
 chained m laws t u v (inr p) (inl e) = subst (λ (x : TypeRow). Fits m [] t x) e (inr p)
 chained m laws t u v (inr p) (inr q) = inr (q .0, laws .transitive (t .level) (u .level) (v .level) (p .1) (q .1))

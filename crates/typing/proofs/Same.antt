@@ -28,7 +28,7 @@ kind-eq a b h = sym (kind-back a) ∙ ap kind-of (eqb-true (type-kind-number a) 
 pub eq-kind : (a b : TypeKind) → a ≡ b → same-kind a b ≡ true
 eq-kind a b e = eq-eqb (type-kind-number a) (type-kind-number b) (ap type-kind-number e)
 
-list-eq : (xs ys : List ℕ) → same-list xs ys ≡ true → xs ≡ ys
+pub list-eq : (xs ys : List ℕ) → same-list xs ys ≡ true → xs ≡ ys
 list-eq [] [] h = refl
 list-eq [] (y ∷ ys) h = absurd (false≢true h)
 list-eq (x ∷ xs) [] h = absurd (false≢true h)

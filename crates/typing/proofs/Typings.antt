@@ -69,7 +69,7 @@ module _ (m : Meaning) (ts : List TypeRow) where
     open-made asked n' us u w q =
         made-open m (declared-use m ts k asked n' us) (open-use m k us) (misuse m k asked n') u t (undeclared m ts k asked n' us (w .0)) (open-back m ts k us (w .1) (w .2)) q
 
-    rule-back : (slot : TypeRow) (kind : TermKind) → Term-rule m ts k parts n t kind → composite m ts slot k parts n kind ≡ Ok t
+    pub rule-back : (slot : TypeRow) (kind : TermKind) → Term-rule m ts k parts n t kind → composite m ts slot k parts n kind ≡ Ok t
     rule-back slot Slot r = elim r [ ]
     rule-back slot Ek (Rules.ek e q) = declared-made Dec (k .count) [] (key-type m Enc k) (kind-declared k Dec e) q
     rule-back slot Ek (Rules.ek-open f o q) = open-made Dec (k .count) [] (key-type m Enc k) (λ d. f (d .0), o, tt) q

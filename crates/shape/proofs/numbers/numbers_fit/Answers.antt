@@ -1,8 +1,6 @@
 use mathlib.Core.Path.{sym, _∙_}
-use Prim.Native.Nat.{_-_}
-use Rattle.std.proofs.shelf.Lists.{at-drop-all}
-use Rattle.shape.specs.Numbers.{numbers-fit}
-use Rattle.shape.proofs.FitRest.{used-good, used-bad, unused-good, unused-bad}
+use native.Mathlib.Omega.{arith}
+use Rattle.shape.proofs.FitRest.{fit-none, used-good, used-bad, unused-good, unused-bad}
 use Rattle.shape.proofs.numbers.numbers_fit.Needs as need
 use Rattle.shape.proofs.numbers.numbers_fit.Needs.{then-k-used·else-x-bound, else-k-used·else-x-ne0}
 
@@ -24,4 +22,4 @@ loop-k-again c =
 
 pub returns : need.returns
 returns c =
-    sym (c .loop-k .inv ∙ at-drop-all (numbers-fit (c .args .bound) (c .args .used - c .loop-k .k)) (c .args .numbers .now) (c .loop-k .k) (c .loop-k-test .left))
+    sym (c .loop-k .inv ∙ fit-none (c .args .bound) (c .args .used) (c .loop-k .k) (c .args .numbers .now) (c .loop-k-test .left) (omega arith))

@@ -1,0 +1,12 @@
+pub mod Steps
+pub mod Series
+pub mod Unfold
+pub mod Declared
+pub mod Deep
+pub mod Cleared
+pub mod Told
+pub mod Good
+pub mod Keeps
+pub mod KeepsNames
+pub mod Opens
+pub mod Sounds

@@ -1,0 +1,12 @@
+pub mod Cursor
+pub mod Tokens
+pub mod Lists
+pub mod Terms
+pub mod Types
+pub mod Names
+pub mod Rows
+pub mod Heads
+pub mod Processes
+pub mod Whole
+pub mod Examples
+pub mod Sound

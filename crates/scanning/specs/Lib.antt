@@ -1,0 +1,4 @@
+pub mod Faults
+pub mod Spelling
+pub mod Vocabulary
+pub mod Names
