@@ -1,5 +1,7 @@
 //! The one answer to a listing's text, and its line.
 
+#![tactic(auto)]
+
 mod answer;
 mod line;
 

@@ -1,4 +1,6 @@
 //! Cases of the definitions, computed.
+#![tactic(auto)]
+
 ghost use Rattle.std.specs.Prelude.{◌≡◌};
 ghost use Rattle.cases.specs.Cases.{MarkedCases};
 

@@ -1,5 +1,7 @@
 //! The whole routine on text: a listing's text and a scheme to one answer.
 
+#![tactic(auto)]
+
 mod answering;
 mod fault;
 mod text;

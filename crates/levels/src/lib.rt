@@ -1,5 +1,7 @@
 //! Level schemes: which numbers are levels, how they are ordered, their meets and the open level.
 
+#![tactic(auto)]
+
 mod four;
 mod lowering;
 mod parties;

@@ -1,5 +1,7 @@
 //! The reader of a listing: its text into lent tables.
 
+#![tactic(auto)]
+
 mod heads;
 mod names;
 mod process_rows;

@@ -1,5 +1,7 @@
 //! The tables of a listing: types, process rows and term rows.
 
+#![tactic(auto)]
+
 mod kinds;
 mod listing;
 mod process;

@@ -1,5 +1,7 @@
 //! Protocols as tables. Each has its listing text above it.
 
+#![tactic(auto)]
+
 mod key_pairs;
 mod kinds;
 mod sample;

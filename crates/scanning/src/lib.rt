@@ -1,6 +1,8 @@
 //! What the reader of a listing looks at: the words of the text, the grammar's own words, and the
 //! names in scope.
 
+#![tactic(auto)]
+
 mod fault;
 mod names;
 mod scope;

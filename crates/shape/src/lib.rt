@@ -1,5 +1,7 @@
 //! The shape test: whether the tables of a listing are what they must be before they mean anything.
 
+#![tactic(auto)]
+
 mod depth;
 mod fault;
 mod numbers;

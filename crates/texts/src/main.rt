@@ -1,4 +1,6 @@
 //! Checks the texts of its data folder under the four levels, and prints one line for each.
+#![tactic(auto)]
+
 use answers::line_of;
 use checker::{answer_of, check_text};
 use levels::FourLevels;

@@ -1,5 +1,7 @@
 //! Tests of the check on tables: every refusal with its row, and the shortcuts that it must not take.
 
+#![tactic(auto)]
+
 #[cfg(test)]
 mod limits;
 #[cfg(test)]

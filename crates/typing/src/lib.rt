@@ -1,6 +1,8 @@
 //! The typing rules: when a type fits another, how keys and channels are used, the types of terms and
 //! what a process row comes to.
 
+#![tactic(auto)]
+
 mod fitting;
 mod judging;
 mod misuse;

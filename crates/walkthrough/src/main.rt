@@ -1,4 +1,6 @@
 //! Walks through sample protocols under the four levels, row by row in the order of the check.
+#![tactic(auto)]
+
 ghost use Rattle.std.specs.Prelude.{◌≡◌, ◌+◌, ◌-◌, ◌≤◌, take};
 ghost use Rattle.rows.specs.Processes.{adds};
 ghost use Rattle.typing.specs.Judging.{extended};

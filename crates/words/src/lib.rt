@@ -1,5 +1,7 @@
 //! The words of a listing's text: words, numbers and marks, one after the other.
 
+#![tactic(auto)]
+
 mod bytes;
 mod token;
 mod word_reader;

@@ -1,4 +1,6 @@
 //! Checks the listing on standard input under the four levels, and prints one line.
+#![tactic(auto)]
+
 ghost use Rattle.std.specs.Prelude.{◌≤◌, length, IfOk};
 
 use answers::line_of;
