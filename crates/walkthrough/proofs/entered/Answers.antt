@@ -9,6 +9,6 @@ returns-then-from-n-le32 c room few =
     let row = c.args.row in
     let fits : row.slots ≤ length old = search rules in
     let n : c.added-n.result - 0 ≡ adds row = omega (arith, c.added-n.ensures) in
-    let is : c.copy-from-slice.new.self ≡ take (adds row) c.args.new = c.copy-from-slice.ensures.after ∙ ap (λ x. take x c.args.new) n in
-    let long : length c.copy-from-slice.new.self ≡ adds row = search rules in
-    take-put_mid _ _ old c.copy-from-slice.new.self (row.slots + adds row) (omega arith) fits ∙ ap (λ x. take row.slots old ++ x) is
+    let is : c.copy_from_slice.new.self ≡ take (adds row) c.args.new = c.copy_from_slice.ensures.after ∙ ap (λ x. take x c.args.new) n in
+    let long : length c.copy_from_slice.new.self ≡ adds row = search rules in
+    take-put_mid _ _ old c.copy_from_slice.new.self (row.slots + adds row) (omega arith) fits ∙ ap (λ x. take row.slots old ++ x) is

@@ -11,21 +11,21 @@ use Rattle.checker.proofs.text.check_text.Goals as goal
 pub returns-in-Ok : goal.returns-in-Ok
 returns-in-Ok g c =
     let m = means g.S.Scheme c.args.s.now in
-    let t : reader.Tables = record { counts = c.in-ok-counts.counts; types = c.read.new.types; processes = c.read.new.processes; terms = c.read.new.terms; places = c.read.new.places } in
+    let t : reader.Tables = record { counts = c.in_ok-counts.counts; types = c.read.new.types; processes = c.read.new.processes; terms = c.read.new.terms; places = c.read.new.places } in
     let says = composed m c.args.text.now t _ (Ok tt)
-    (ap (λ o. listing c.args.text.now o full) (sym c.open.ensures) ∙ c.in-ok-counts.ensures.answer)
+    (ap (λ o. listing c.args.text.now o full) (sym c.open.ensures) ∙ c.in_ok-counts.ensures.answer)
     (cut_in_use t c.min.result c.min-2.result c.min-3.result c.read.auto.types c.read.auto.processes c.read.auto.terms c.min.ensures c.min-2.ensures c.min-3.ensures)
     c.in-Ok.ensures.says in
-    record { says = says; never-20-or-23 = never_text m c.args.text.now _ says }
+    record { says = says; never_20_or_23 = never_text m c.args.text.now _ says }
 
 pub returns-in-Err : goal.returns-in-Err
 returns-in-Err g c =
     let m = means g.S.Scheme c.args.s.now in
-    let t : reader.Tables = record { counts = c.in-ok-counts.counts; types = c.read.new.types; processes = c.read.new.processes; terms = c.read.new.terms; places = c.read.new.places } in
+    let t : reader.Tables = record { counts = c.in_ok-counts.counts; types = c.read.new.types; processes = c.read.new.processes; terms = c.read.new.terms; places = c.read.new.places } in
     let says =
-    ap (λ p. Err (Refused c.in-Err.refusal p)) c.place-of.ensures
+    ap (λ p. Err (Refused c.in-Err.refusal p)) c.place_of.ensures
     ∙ composed m c.args.text.now t _ (Err c.in-Err.refusal)
-    (ap (λ o. listing c.args.text.now o full) (sym c.open.ensures) ∙ c.in-ok-counts.ensures.answer)
+    (ap (λ o. listing c.args.text.now o full) (sym c.open.ensures) ∙ c.in_ok-counts.ensures.answer)
     (cut_in_use t c.min.result c.min-2.result c.min-3.result c.read.auto.types c.read.auto.processes c.read.auto.terms c.min.ensures c.min-2.ensures c.min-3.ensures)
     c.in-Err.ensures.says in
-    record { says = says; never-20-or-23 = never_text m c.args.text.now _ says }
+    record { says = says; never_20_or_23 = never_text m c.args.text.now _ says }

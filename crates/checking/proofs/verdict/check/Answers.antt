@@ -8,17 +8,17 @@ use Rattle.checking.proofs.Agrees.{decides}
 use Rattle.checking.proofs.SameAnswers.{by_answers}
 use Rattle.checking.proofs.verdict.check.Goals as goal
 
-pub returns-in-err-in-shape : goal.returns-in-err-in-shape
-returns-in-err-in-shape g c =
+pub returns-in_err-in_shape : goal.returns-in_err-in_shape
+returns-in_err-in_shape g c =
     let m = means g.S.Scheme c.args.s.now in
     let T = tables c.args.l in
-    let p = err_from_is_err_and c.from-residual.result c.from-residual.ensures.1 in
-    let e : c.from-residual.result ≡ verdict m T = p.1 ∙ ap Err p.2 ∙ ap (λ x. then_rules x (rules m T)) c.in-err-in-shape.ensures.says in
-    record { says = e; decides = decides m T c.from-residual.result e; by_answers = by_answers m (lawful g.met.S.Scheme c.args.s.now) T c.from-residual.result e }
+    let p = err_from_is_err_and c.from_residual.result c.from_residual.ensures.1 in
+    let e : c.from_residual.result ≡ verdict m T = p.1 ∙ ap Err p.2 ∙ ap (λ x. then_rules x (rules m T)) c.in_err-in_shape.ensures.says in
+    record { says = e; decides = decides m T c.from_residual.result e; by_answers = by_answers m (lawful g.met.S.Scheme c.args.s.now) T c.from_residual.result e }
 
 pub returns : goal.returns
 returns g c =
     let m = means g.S.Scheme c.args.s.now in
     let T = tables c.args.l in
-    let e : c.walk.result ≡ verdict m T = c.walk.ensures ∙ ap (λ x. then_rules x (rules m T)) c.in-ok-in-shape.ensures.says in
+    let e : c.walk.result ≡ verdict m T = c.walk.ensures ∙ ap (λ x. then_rules x (rules m T)) c.in_ok-in_shape.ensures.says in
     record { says = e; decides = decides m T c.walk.result e; by_answers = by_answers m (lawful g.met.S.Scheme c.args.s.now) T c.walk.result e }

@@ -14,48 +14,48 @@ turn-init g c =
     let m = means g.S.Scheme c.args.s.now in
     begins m (tables c.args.l) (Reached.shaped m (tables c.args.l) c.requires) (passed m (tables c.args.l) c.requires).few_terms
 
-pub stop-at-requires : goal.stop-at-requires
-stop-at-requires g c =
+pub stop_at-requires : goal.stop_at-requires
+stop_at-requires g c =
     record { held = omega (arith, c.turn.invariant.few, c.turn.invariant.stack_long); known = top_inside c.turn.invariant; short = (shaped c.turn.invariant).short }
 
 pub bounds-rows-i : goal.bounds-rows-i
-bounds-rows-i g c = on c.turn.invariant (omega (arith, c.stop-at.ensures, c.if-i-stop-at.true))
+bounds-rows-i g c = on c.turn.invariant (omega (arith, c.stop_at.ensures, c.if-i-stop_at.true))
 
-pub slice-bounds-judge-row-end : goal.slice-bounds-judge-row-end
-slice-bounds-judge-row-end g c =
-    let inside = on c.turn.invariant (omega (arith, c.stop-at.ensures, c.if-i-stop-at.true)) in
+pub slice_bounds-judge_row-end : goal.slice_bounds-judge_row-end
+slice_bounds-judge_row-end g c =
+    let inside = on c.turn.invariant (omega (arith, c.stop_at.ensures, c.if-i-stop_at.true)) in
     omega (arith, (shaped c.turn.invariant).room c.turn.i inside, c.turn.invariant.env_long)
 
 pub enter-requires : goal.enter-requires
 enter-requires g c =
-    let inside = on c.turn.invariant (omega (arith, c.stop-at.ensures, c.if-i-stop-at.true)) in
+    let inside = on c.turn.invariant (omega (arith, c.stop_at.ensures, c.if-i-stop_at.true)) in
     record { fit = omega (arith, (shaped c.turn.invariant).space c.turn.i inside, c.turn.invariant.env_long); enough = omega (arith, (shaped c.turn.invariant).few c.turn.i inside) }
 
 pub enter-requires-in-Opens : goal.enter-requires-in-Opens
 enter-requires-in-Opens g c =
-    let inside = on c.turn.invariant (omega (arith, c.stop-at.ensures, c.if-i-stop-at.true)) in
+    let inside = on c.turn.invariant (omega (arith, c.stop_at.ensures, c.if-i-stop_at.true)) in
     record { fit = omega (arith, (shaped c.turn.invariant).space c.turn.i inside, c.turn.invariant.env_long); enough = omega (arith, (shaped c.turn.invariant).few c.turn.i inside) }
 
 pub bounds-stack-top : goal.bounds-stack-top
 bounds-stack-top g c =
-    let h : c.turn.i < limit_at c.args.l.processes.now c.turn.stack c.turn.top = omega (arith, c.stop-at.ensures, c.if-i-stop-at.true) in
+    let h : c.turn.i < limit_at c.args.l.processes.now c.turn.stack c.turn.top = omega (arith, c.stop_at.ensures, c.if-i-stop_at.true) in
     space c.turn.invariant h c.in-Opens.new c.in-Opens.again (read_by c.turn.invariant h (Opens c.in-Opens.new c.in-Opens.again) c.in-Opens.ensures.says)
 
 pub bounds-due-top : goal.bounds-due-top
 bounds-due-top g c =
-    let h : c.turn.i < limit_at c.args.l.processes.now c.turn.stack c.turn.top = omega (arith, c.stop-at.ensures, c.if-i-stop-at.true) in
+    let h : c.turn.i < limit_at c.args.l.processes.now c.turn.stack c.turn.top = omega (arith, c.stop_at.ensures, c.if-i-stop_at.true) in
     space c.turn.invariant h c.in-Opens.new c.in-Opens.again (read_by c.turn.invariant h (Opens c.in-Opens.new c.in-Opens.again) c.in-Opens.ensures.says)
 
 pub returns-in-Refuses : goal.returns-in-Refuses
 returns-in-Refuses g c =
-    let h : c.turn.i < limit_at c.args.l.processes.now c.turn.stack c.turn.top = omega (arith, c.stop-at.ensures, c.if-i-stop-at.true) in
+    let h : c.turn.i < limit_at c.args.l.processes.now c.turn.stack c.turn.top = omega (arith, c.stop_at.ensures, c.if-i-stop_at.true) in
     on_refuses c.turn.invariant h c.in-Refuses.misuse (read_by c.turn.invariant h (Refuses c.in-Refuses.misuse) c.in-Refuses.ensures.says)
 
-pub turn-smaller-then-i-stop-at : goal.turn-smaller-then-i-stop-at
-turn-smaller-then-i-stop-at g c =
-    let h : c.turn.i < limit_at c.args.l.processes.now c.turn.stack c.turn.top = omega (arith, c.stop-at.ensures, c.if-i-stop-at.true) in
+pub turn-smaller-then-i-stop_at : goal.turn-smaller-then-i-stop_at
+turn-smaller-then-i-stop_at g c =
+    let h : c.turn.i < limit_at c.args.l.processes.now c.turn.stack c.turn.top = omega (arith, c.stop_at.ensures, c.if-i-stop_at.true) in
     let t = c.turn.invariant in
-    elim c.match-judge-row.branch [
+    elim c.match-judge_row.branch [
       | in-Done w ↦ weight_as _ _ _ w.top-is w.stack-is w.due-is (falls t h)
       | in-Splits w ↦ weight_as _ _ _ w.top-is w.stack-is w.due-is (falls t h)
       | in-Binds w ↦ weight_as _ _ _ w.top-is w.stack-is w.due-is (falls t h)
@@ -64,25 +64,25 @@ turn-smaller-then-i-stop-at g c =
           (falls_opens t h w.in-Opens.new w.in-Opens.again (read_by t h (Opens w.in-Opens.new w.in-Opens.again) w.in-Opens.ensures.says))
     ]
 
-pub turn-preserved-then-i-stop-at : goal.turn-preserved-then-i-stop-at
-turn-preserved-then-i-stop-at g c =
-    let h : c.turn.i < limit_at c.args.l.processes.now c.turn.stack c.turn.top = omega (arith, c.stop-at.ensures, c.if-i-stop-at.true) in
+pub turn-preserved-then-i-stop_at : goal.turn-preserved-then-i-stop_at
+turn-preserved-then-i-stop_at g c =
+    let h : c.turn.i < limit_at c.args.l.processes.now c.turn.stack c.turn.top = omega (arith, c.stop_at.ensures, c.if-i-stop_at.true) in
     let t = c.turn.invariant in
-    elim c.match-judge-row.branch [
-      | in-Done w ↦ turn_as w.env-is w.top-is w.stack-is w.due-is c.judge-row.auto.seen (on_done t h (read_by t h Done w.in-Done.ensures.says))
-      | in-Splits w ↦ turn_as w.env-is w.top-is w.stack-is w.due-is c.judge-row.auto.seen (on_splits t h (read_by t h Splits w.in-Splits.ensures.says))
+    elim c.match-judge_row.branch [
+      | in-Done w ↦ turn_as w.env-is w.top-is w.stack-is w.due-is c.judge_row.auto.seen (on_done t h (read_by t h Done w.in-Done.ensures.says))
+      | in-Splits w ↦ turn_as w.env-is w.top-is w.stack-is w.due-is c.judge_row.auto.seen (on_splits t h (read_by t h Splits w.in-Splits.ensures.says))
       | in-Binds w ↦
-          turn_as w.env-is w.top-is w.stack-is w.due-is c.judge-row.auto.seen
+          turn_as w.env-is w.top-is w.stack-is w.due-is c.judge_row.auto.seen
           (on_binds t h w.enter.new.env w.in-Binds.new (read_by t h (Binds w.in-Binds.new) w.in-Binds.ensures.says)
           (record { below = w.enter.ensures.below; within = w.enter.ensures.within }) w.enter.auto.env)
       | in-Opens w ↦
-          turn_as w.env-is w.top-is w.stack-is w.due-is c.judge-row.auto.seen
+          turn_as w.env-is w.top-is w.stack-is w.due-is c.judge_row.auto.seen
           (on_opens t h w.enter-in-Opens.new.env w.in-Opens.new w.in-Opens.again (read_by t h (Opens w.in-Opens.new w.in-Opens.again) w.in-Opens.ensures.says)
           (record { below = w.enter-in-Opens.ensures.below; within = w.enter-in-Opens.ensures.within }) w.enter-in-Opens.auto.env)
     ]
 
 pub returns-then-top-eq0 : goal.returns-then-top-eq0
-returns-then-top-eq0 g c = at_end c.turn.invariant c.if-top-eq0.true (omega (arith, c.stop-at.ensures, c.if-i-stop-at.false))
+returns-then-top-eq0 g c = at_end c.turn.invariant c.if-top-eq0.true (omega (arith, c.stop_at.ensures, c.if-i-stop_at.false))
 
 pub bounds-rows-i-then-due-top : goal.bounds-rows-i-then-due-top
 bounds-rows-i-then-due-top g c = top_inside c.turn.invariant (omega arith)
@@ -95,8 +95,8 @@ enter-requires-then-due-top g c =
       enough = (shaped c.turn.invariant).few (get_or c.turn.stack (c.turn.top - 1) 0) inside;
     }
 
-pub overflow-add-i-then-due-top : goal.overflow-add-i-then-due-top
-overflow-add-i-then-due-top g c =
+pub overflow_add-i-then-due-top : goal.overflow_add-i-then-due-top
+overflow_add-i-then-due-top g c =
     let small : get_or c.turn.stack (c.turn.top - 1) 0 < 512 = omega (arith, top_inside c.turn.invariant (omega arith), (shaped c.turn.invariant).short) in
     search rules
 
@@ -105,11 +105,11 @@ turn-smaller-then-due-top g c = falls_again c.turn.invariant (omega arith) c.if-
 
 pub turn-preserved-then-due-top : goal.turn-preserved-then-due-top
 turn-preserved-then-due-top g c =
-    on_again c.turn.invariant c.enter-then-due-top.new.env (omega arith) (omega (arith, c.stop-at.ensures, c.if-i-stop-at.false)) c.if-due-top.true
+    on_again c.turn.invariant c.enter-then-due-top.new.env (omega arith) (omega (arith, c.stop_at.ensures, c.if-i-stop_at.false)) c.if-due-top.true
     (record { below = c.enter-then-due-top.ensures.below; within = c.enter-then-due-top.ensures.within }) c.enter-then-due-top.auto.env
 
 pub turn-smaller : goal.turn-smaller
-turn-smaller g c = falls_back c.turn.invariant (omega arith) (omega (arith, c.stop-at.ensures, c.if-i-stop-at.false)) c.if-due-top.false
+turn-smaller g c = falls_back c.turn.invariant (omega arith) (omega (arith, c.stop_at.ensures, c.if-i-stop_at.false)) c.if-due-top.false
 
 pub turn-preserved : goal.turn-preserved
-turn-preserved g c = on_back c.turn.invariant (omega arith) (omega (arith, c.stop-at.ensures, c.if-i-stop-at.false)) c.if-due-top.false
+turn-preserved g c = on_back c.turn.invariant (omega arith) (omega (arith, c.stop_at.ensures, c.if-i-stop_at.false)) c.if-due-top.false

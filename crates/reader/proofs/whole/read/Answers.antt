@@ -8,36 +8,36 @@ pub returns-then-text-gt-LONGEST : goal.returns-then-text-gt-LONGEST
 returns-then-text-gt-LONGEST c =
     let n = sizes_of c.args.types.now c.args.processes.now c.args.terms.now c.args.places.now in
     record {
-      answer = (too_long c.args.text.now c.args.level n c.if-text-gt-LONGEST.true, c.clear-types.ensures, c.clear-processes.ensures, c.clear-terms.ensures, c.clear-places.ensures);
+      answer = (too_long c.args.text.now c.args.level n c.if-text-gt-LONGEST.true, c.clear_types.ensures, c.clear_processes.ensures, c.clear_terms.ensures, c.clear_places.ensures);
       sound = tt;
-      never-20-or-23 = tt;
+      never_20_or_23 = tt;
       kept = refl;
     }
 
 pub returns-in-Ok : goal.returns-in-Ok
 returns-in-Ok c =
     let n = sizes_of c.args.types.now c.args.processes.now c.args.terms.now c.args.places.now in
-    let h = fits c.args.text.now c.args.level n c.if-text-gt-LONGEST.false c.clear-types.new.types c.clear-processes.new.processes c.clear-terms.new.terms c.clear-places.new.places c.clear-types.ensures c.clear-processes.ensures c.clear-terms.ensures c.clear-places.ensures ∙ c.in-Ok.ensures.told in
+    let h = fits c.args.text.now c.args.level n c.if-text-gt-LONGEST.false c.clear_types.new.types c.clear_processes.new.processes c.clear_terms.new.terms c.clear_places.new.places c.clear_types.ensures c.clear_processes.ensures c.clear_terms.ensures c.clear_places.ensures ∙ c.in-Ok.ensures.told in
     let q = listing_holds c.args.text.now c.args.level n _ h in
-    record { answer = h; sound = q.0; never-20-or-23 = q.1; kept = c.in-Ok.ensures.kept }
+    record { answer = h; sound = q.0; never_20_or_23 = q.1; kept = c.in-Ok.ensures.kept }
 
 pub returns-in-Err : goal.returns-in-Err
 returns-in-Err c =
     let n = sizes_of c.args.types.now c.args.processes.now c.args.terms.now c.args.places.now in
-    let a : length c.read-into.new.types ≡ length c.args.types.now = omega arith in
-    let b : length c.read-into.new.processes ≡ length c.args.processes.now = omega arith in
-    let d : length c.read-into.new.terms ≡ length c.args.terms.now = omega arith in
-    let e : length c.read-into.new.places ≡ length c.args.places.now = omega arith in
+    let a : length c.read_into.new.types ≡ length c.args.types.now = omega arith in
+    let b : length c.read_into.new.processes ≡ length c.args.processes.now = omega arith in
+    let d : length c.read_into.new.terms ≡ length c.args.terms.now = omega arith in
+    let e : length c.read_into.new.places ≡ length c.args.places.now = omega arith in
     record {
       answer = (
-        fits c.args.text.now c.args.level n c.if-text-gt-LONGEST.false c.clear-types.new.types c.clear-processes.new.processes c.clear-terms.new.terms c.clear-places.new.places c.clear-types.ensures c.clear-processes.ensures c.clear-terms.ensures c.clear-places.ensures
+        fits c.args.text.now c.args.level n c.if-text-gt-LONGEST.false c.clear_types.new.types c.clear_processes.new.processes c.clear_terms.new.terms c.clear_places.new.places c.clear_types.ensures c.clear_processes.ensures c.clear_terms.ensures c.clear_places.ensures
             ∙ c.in-Err.ensures.told,
-        c.clear-types-in-Err.ensures ∙ ap (λ k. replicate k zero_type) a,
-        c.clear-processes-in-Err.ensures ∙ ap (λ k. replicate k zero_process) b,
-        c.clear-terms-in-Err.ensures ∙ ap (λ k. replicate k zero_term) d,
-        c.clear-places-in-Err.ensures ∙ ap (λ k. replicate k 0) e,
+        c.clear_types-in-Err.ensures ∙ ap (λ k. replicate k zero_type) a,
+        c.clear_processes-in-Err.ensures ∙ ap (λ k. replicate k zero_process) b,
+        c.clear_terms-in-Err.ensures ∙ ap (λ k. replicate k zero_term) d,
+        c.clear_places-in-Err.ensures ∙ ap (λ k. replicate k 0) e,
       );
       sound = tt;
-      never-20-or-23 = tt;
+      never_20_or_23 = tt;
       kept = c.in-Err.ensures.kept;
     }

@@ -4,10 +4,10 @@ use Rattle.std.specs.Str.{bytes_eq}
 use Rattle.scanning.specs.Names.{no_span}
 use Rattle.scanning.proofs.Newest.{length_newest}
 use Rattle.scanning.proofs.names.slot_of.Goals as goal
-use Rattle.scanning.proofs.names.slot_of.Goals.{then-is-text, else-is-text}
+use Rattle.scanning.proofs.names.slot_of.Goals.{then-is_text, else-is_text}
 
 pub loop-i-preserved : goal.loop-i-preserved
 loop-i-preserved c =
     let same = ap (λ q. bytes_eq q c.args.w.now) c.spell.ensures in
     let long = length_newest no_span c.args.scope.now.names c.loop-i.i in
-    elim c.if-is-text.branch [ then-is-text w ↦ rw (add-one, long) (w.found-is ∙ sym (cond-true _ _ _ (sym (w.if-is-text.ensures ∙ same)))) | else-is-text w ↦ rw add-one (w.found-is ∙ c.loop-i.invariant ∙ sym (cond-false _ _ _ (sym (w.if-is-text.ensures ∙ same)))) ]
+    elim c.if-is_text.branch [ then-is_text w ↦ rw (add-one, long) (w.found-is ∙ sym (cond-true _ _ _ (sym (w.if-is_text.ensures ∙ same)))) | else-is_text w ↦ rw add-one (w.found-is ∙ c.loop-i.invariant ∙ sym (cond-false _ _ _ (sym (w.if-is_text.ensures ∙ same)))) ]

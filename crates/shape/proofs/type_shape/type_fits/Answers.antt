@@ -8,10 +8,10 @@ returns-then-i-eq0 g c =
     first_row (means g.S.Scheme c.args.s.now) c.args.types.now c.args.i c.same.result c.requires
     c.open.result c.plain.result c.if-i-eq0.true c.open.ensures c.plain.ensures c.same.ensures
 
-pub returns-then-numbers-fit : goal.returns-then-numbers-fit
-returns-then-numbers-fit g c =
+pub returns-then-numbers_fit : goal.returns-then-numbers_fit
+returns-then-numbers_fit g c =
     later_row (means g.S.Scheme c.args.s.now) c.args.types.now c.args.i _ c.requires c.if-i-eq0.false (search rules)
 
-pub returns-else-numbers-fit : goal.returns-else-numbers-fit
-returns-else-numbers-fit g c =
+pub returns-else-numbers_fit : goal.returns-else-numbers_fit
+returns-else-numbers_fit g c =
     later_row (means g.S.Scheme c.args.s.now) c.args.types.now c.args.i _ c.requires c.if-i-eq0.false (search rules)

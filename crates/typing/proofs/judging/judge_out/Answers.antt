@@ -10,9 +10,9 @@ use Rattle.typing.proofs.judging.judge_out.Goals as goal
 pub returns : goal.returns
 returns g c =
     let p = c.args.p in
-    c.by-usage.ensures
+    c.by_usage.ensures
     ∙ ap (λ u. by_use u (Binds zeros) (Binds zeros))
-    (c.use-key.ensures
+    (c.use_key.ensures
     ∙ ap₂ (λ k us. used (means g.S.Scheme c.args.s.now) c.args.types.now k Chan p.count us)
     c.at-channel.ensures
-    (cut_sent c.args.seen.now p _ c.min.result (omega arith) c.types-at-four.ensures c.min.ensures))
+    (cut_sent c.args.seen.now p _ c.min.result (omega arith) c.types_at-four.ensures c.min.ensures))

@@ -11,8 +11,8 @@ returns-in-Ok g c =
     let ts = c.args.l.types.now in
     let p = c.args.p in
     record {
-      says = c.judge-kind.ensures
-          ∙ ap (λ us. judge m ts us p p.kind) (cut c.type-run.new.seen (length c.run-run.result.now) c.min-n.result (omega arith))
+      says = c.judge_kind.ensures
+          ∙ ap (λ us. judge m ts us p p.kind) (cut c.type_run.new.seen (length c.run-run.result.now) c.min-n.result (omega arith))
           ∙ ap (judged m ts p) c.in-Ok.ensures.says
           ∙ ap (λ run. reading m ts c.args.env.now (take (length c.args.seen.now) run) p) c.run-run.ensures;
       wrote = c.in-Ok.ensures.wrote

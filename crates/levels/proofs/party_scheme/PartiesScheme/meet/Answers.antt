@@ -2,8 +2,8 @@ use Rattle.std.proofs.Common.{sym, ◌∙◌}
 use Rattle.levels.proofs.PartyCode.{meet_code}
 use Rattle.levels.proofs.party_scheme.PartiesScheme.meet.Goals as goal
 
-pub returns-then-is-level-2 : goal.returns-then-is-level-2
-returns-then-is-level-2 c =
-    rw (c.reader-mask.ensures, c.reader-mask-then-is-level-2.ensures, c.writer-mask.ensures, c.writer-mask-then-is-level-2.ensures)
+pub returns-then-is_level-2 : goal.returns-then-is_level-2
+returns-then-is_level-2 c =
+    rw (c.reader_mask.ensures, c.reader_mask-then-is_level-2.ensures, c.writer_mask.ensures, c.writer_mask-then-is_level-2.ensures)
     (meet_code c.args.self.now.count c.args.a c.args.b c.args.self.now.few
-    (sym c.if-is-level.ensures) (sym c.if-is-level-2.ensures))
+    (sym c.if-is_level.ensures) (sym c.if-is_level-2.ensures))

@@ -9,67 +9,67 @@ use Rattle.reader.proofs.Unfold.{before_bracket, in_bracket}
 use Rattle.reader.proofs.Series.{one_too_many, item_fails, comma_fails, list_ends, goes_on}
 use Rattle.reader.proofs.tables.Reader.+list_term.Goals as goal
 
-pub term-returns-in-err-first : goal.term-returns-in-err-first
-term-returns-in-err-first t c = record { gives = before_bracket c.args.allow c.args.text.now (scoped c.args.scope.now).names (state c.args.self.now) _ _ (search rules); same = search rules }
+pub term-returns-in_err-first : goal.term-returns-in_err-first
+term-returns-in_err-first t c = record { gives = before_bracket c.args.allow c.args.text.now (scoped c.args.scope.now).names (state c.args.self.now) _ _ (search rules); same = search rules }
 
-pub term-returns-in-err-inner : goal.term-returns-in-err-inner
-term-returns-in-err-inner t c = record { gives = before_bracket c.args.allow c.args.text.now (scoped c.args.scope.now).names (state c.args.self.now) _ _ (search rules); same = search rules }
+pub term-returns-in_err-inner : goal.term-returns-in_err-inner
+term-returns-in_err-inner t c = record { gives = before_bracket c.args.allow c.args.text.now (scoped c.args.scope.now).names (state c.args.self.now) _ _ (search rules); same = search rules }
 
-pub term-returns-in-err-inner-2 : goal.term-returns-in-err-inner-2
-term-returns-in-err-inner-2 t c = record { gives = before_bracket c.args.allow c.args.text.now (scoped c.args.scope.now).names (state c.args.self.now) _ _ (search rules); same = search rules }
+pub term-returns-in_err-inner-2 : goal.term-returns-in_err-inner-2
+term-returns-in_err-inner-2 t c = record { gives = before_bracket c.args.allow c.args.text.now (scoped c.args.scope.now).names (state c.args.self.now) _ _ (search rules); same = search rules }
 
 pub term-returns-in-Name : goal.term-returns-in-Name
 term-returns-in-Name t c = record { gives = before_bracket c.args.allow c.args.text.now (scoped c.args.scope.now).names (state c.args.self.now) _ _ (search rules); same = search rules }
 
 pub term-returns-in-Reserved : goal.term-returns-in-Reserved
-term-returns-in-Reserved t c = record { gives = before_bracket c.args.allow c.args.text.now (scoped c.args.scope.now).names (state c.args.self.now) (Err (Grammar c.in-ok-first.first.start)) (state c.args.self.now) (search rules); same = search rules }
+term-returns-in-Reserved t c = record { gives = before_bracket c.args.allow c.args.text.now (scoped c.args.scope.now).names (state c.args.self.now) (Err (Grammar c.in_ok-first.first.start)) (state c.args.self.now) (search rules); same = search rules }
 
-pub term-returns-in-err-key : goal.term-returns-in-err-key
-term-returns-in-err-key t c = record { gives = in_bracket c.args.allow c.args.text.now (scoped c.args.scope.now).names (state c.args.self.now) _ _ c.in-ok-inner.inner c.in-ok-inner.ensures.falls (search rules); same = search rules }
+pub term-returns-in_err-key : goal.term-returns-in_err-key
+term-returns-in_err-key t c = record { gives = in_bracket c.args.allow c.args.text.now (scoped c.args.scope.now).names (state c.args.self.now) _ _ c.in_ok-inner.inner c.in_ok-inner.ensures.falls (search rules); same = search rules }
 
-pub term-returns-in-err-mark : goal.term-returns-in-err-mark
-term-returns-in-err-mark t c = record { gives = in_bracket c.args.allow c.args.text.now (scoped c.args.scope.now).names (state c.args.self.now) _ _ c.in-ok-inner.inner c.in-ok-inner.ensures.falls (search rules); same = search rules }
+pub term-returns-in_err-mark : goal.term-returns-in_err-mark
+term-returns-in_err-mark t c = record { gives = in_bracket c.args.allow c.args.text.now (scoped c.args.scope.now).names (state c.args.self.now) _ _ c.in_ok-inner.inner c.in_ok-inner.ensures.falls (search rules); same = search rules }
 
-pub term-returns-in-ok-mark : goal.term-returns-in-ok-mark
-term-returns-in-ok-mark t c = record { gives = in_bracket c.args.allow c.args.text.now (scoped c.args.scope.now).names (state c.args.self.now) _ _ c.in-ok-inner.inner c.in-ok-inner.ensures.falls (search rules); same = search rules }
+pub term-returns-in_ok-mark : goal.term-returns-in_ok-mark
+term-returns-in_ok-mark t c = record { gives = in_bracket c.args.allow c.args.text.now (scoped c.args.scope.now).names (state c.args.self.now) _ _ c.in_ok-inner.inner c.in_ok-inner.ensures.falls (search rules); same = search rules }
 
-pub term-returns-in-err-parts : goal.term-returns-in-err-parts
-term-returns-in-err-parts t c = record { gives = in_bracket c.args.allow c.args.text.now (scoped c.args.scope.now).names (state c.args.self.now) _ _ c.in-ok-inner-2.inner c.in-ok-inner-2.ensures.falls (search rules); same = search rules }
+pub term-returns-in_err-parts : goal.term-returns-in_err-parts
+term-returns-in_err-parts t c = record { gives = in_bracket c.args.allow c.args.text.now (scoped c.args.scope.now).names (state c.args.self.now) _ _ c.in_ok-inner-2.inner c.in_ok-inner-2.ensures.falls (search rules); same = search rules }
 
-pub term-returns-in-err-key-2 : goal.term-returns-in-err-key-2
-term-returns-in-err-key-2 t c = record { gives = in_bracket c.args.allow c.args.text.now (scoped c.args.scope.now).names (state c.args.self.now) _ _ c.in-ok-inner-2.inner c.in-ok-inner-2.ensures.falls (search rules); same = search rules }
+pub term-returns-in_err-key-2 : goal.term-returns-in_err-key-2
+term-returns-in_err-key-2 t c = record { gives = in_bracket c.args.allow c.args.text.now (scoped c.args.scope.now).names (state c.args.self.now) _ _ c.in_ok-inner-2.inner c.in_ok-inner-2.ensures.falls (search rules); same = search rules }
 
-pub term-returns-in-err-mark-2 : goal.term-returns-in-err-mark-2
-term-returns-in-err-mark-2 t c = record { gives = in_bracket c.args.allow c.args.text.now (scoped c.args.scope.now).names (state c.args.self.now) _ _ c.in-ok-inner-2.inner c.in-ok-inner-2.ensures.falls (search rules); same = search rules }
+pub term-returns-in_err-mark-2 : goal.term-returns-in_err-mark-2
+term-returns-in_err-mark-2 t c = record { gives = in_bracket c.args.allow c.args.text.now (scoped c.args.scope.now).names (state c.args.self.now) _ _ c.in_ok-inner-2.inner c.in_ok-inner-2.ensures.falls (search rules); same = search rules }
 
-pub term-returns-in-ok-mark-2 : goal.term-returns-in-ok-mark-2
-term-returns-in-ok-mark-2 t c = record { gives = in_bracket c.args.allow c.args.text.now (scoped c.args.scope.now).names (state c.args.self.now) _ _ c.in-ok-inner-2.inner c.in-ok-inner-2.ensures.falls (search rules); same = search rules }
+pub term-returns-in_ok-mark-2 : goal.term-returns-in_ok-mark-2
+term-returns-in_ok-mark-2 t c = record { gives = in_bracket c.args.allow c.args.text.now (scoped c.args.scope.now).names (state c.args.self.now) _ _ c.in_ok-inner-2.inner c.in_ok-inner-2.ensures.falls (search rules); same = search rules }
 
-pub list-returns-in-err-item : goal.list-returns-in-err-item
-list-returns-in-err-item t c =
+pub list-returns-in_err-item : goal.list-returns-in_err-item
+list-returns-in_err-item t c =
     let some : 0 < 4 - c.loop-parts.parts.count = omega arith in
-    let f = item_fails added (λ qs. term c.args.allow c.args.text.now (scoped c.args.scope.now).names) (λ qs. fifth_term c.args.text.now (scoped c.args.scope.now).names) c.args.text.now c.args.stop (4 - c.loop-parts.parts.count) c.loop-parts.parts some _ (state c.loop-parts.self) c.loop-parts.invariant.1 _ c.in-err-item.ensures.gives in
+    let f = item_fails added (λ qs. term c.args.allow c.args.text.now (scoped c.args.scope.now).names) (λ qs. fifth_term c.args.text.now (scoped c.args.scope.now).names) c.args.text.now c.args.stop (4 - c.loop-parts.parts.count) c.loop-parts.parts some _ (state c.loop-parts.self) c.loop-parts.invariant.1 _ c.in_err-item.ensures.gives in
     record { gives = search rules; same = search rules }
 
-pub list-returns-in-err-more : goal.list-returns-in-err-more
-list-returns-in-err-more t c =
+pub list-returns-in_err-more : goal.list-returns-in_err-more
+list-returns-in_err-more t c =
     let some : 0 < 4 - c.loop-parts.parts.count = omega arith in
-    let f = comma_fails added (λ qs. term c.args.allow c.args.text.now (scoped c.args.scope.now).names) (λ qs. fifth_term c.args.text.now (scoped c.args.scope.now).names) c.args.text.now c.args.stop (4 - c.loop-parts.parts.count) c.loop-parts.parts some _ (state c.loop-parts.self) c.loop-parts.invariant.1 c.in-ok-item.item (state c.term.new.self) c.in-ok-item.ensures.gives _ c.in-err-more.ensures.gives in
+    let f = comma_fails added (λ qs. term c.args.allow c.args.text.now (scoped c.args.scope.now).names) (λ qs. fifth_term c.args.text.now (scoped c.args.scope.now).names) c.args.text.now c.args.stop (4 - c.loop-parts.parts.count) c.loop-parts.parts some _ (state c.loop-parts.self) c.loop-parts.invariant.1 c.in_ok-item.item (state c.term.new.self) c.in_ok-item.ensures.gives _ c.in_err-more.ensures.gives in
     record { gives = search rules; same = search rules }
 
 pub list-returns-then-not-more : goal.list-returns-then-not-more
 list-returns-then-not-more t c =
     let some : 0 < 4 - c.loop-parts.parts.count = omega arith in
-    let k : comma c.args.text.now c.args.stop (state c.term.new.self) ≡ Ok (false, state c.comma.new.self) = c.in-ok-more.ensures.gives ∙ ap (λ m. Ok (m, state c.comma.new.self)) c.if-not-more.true in
-    record { gives = list_ends added (λ qs. term c.args.allow c.args.text.now (scoped c.args.scope.now).names) (λ qs. fifth_term c.args.text.now (scoped c.args.scope.now).names) c.args.text.now c.args.stop (4 - c.loop-parts.parts.count) c.loop-parts.parts some _ (state c.loop-parts.self) c.loop-parts.invariant.1 c.in-ok-item.item (state c.term.new.self) c.in-ok-item.ensures.gives (state c.comma.new.self) k; same = search rules }
+    let k : comma c.args.text.now c.args.stop (state c.term.new.self) ≡ Ok (false, state c.comma.new.self) = c.in_ok-more.ensures.gives ∙ ap (λ m. Ok (m, state c.comma.new.self)) c.if-not-more.true in
+    record { gives = list_ends added (λ qs. term c.args.allow c.args.text.now (scoped c.args.scope.now).names) (λ qs. fifth_term c.args.text.now (scoped c.args.scope.now).names) c.args.text.now c.args.stop (4 - c.loop-parts.parts.count) c.loop-parts.parts some _ (state c.loop-parts.self) c.loop-parts.invariant.1 c.in_ok-item.item (state c.term.new.self) c.in_ok-item.ensures.gives (state c.comma.new.self) k; same = search rules }
 
 pub list-loop-parts-preserved : goal.list-loop-parts-preserved
 list-loop-parts-preserved t c =
     let some : 0 < 4 - c.loop-parts.parts.count = omega arith in
-    let k : comma c.args.text.now c.args.stop (state c.term.new.self) ≡ Ok (true, state c.comma.new.self) = c.in-ok-more.ensures.gives ∙ ap (λ m. Ok (m, state c.comma.new.self)) c.if-not-more.false in
-    let f = goes_on added (λ qs. term c.args.allow c.args.text.now (scoped c.args.scope.now).names) (λ qs. fifth_term c.args.text.now (scoped c.args.scope.now).names) c.args.text.now c.args.stop (4 - c.loop-parts.parts.count) c.loop-parts.parts some _ (state c.loop-parts.self) c.loop-parts.invariant.1 c.in-ok-item.item (state c.term.new.self) c.in-ok-item.ensures.gives (state c.comma.new.self) k in
+    let k : comma c.args.text.now c.args.stop (state c.term.new.self) ≡ Ok (true, state c.comma.new.self) = c.in_ok-more.ensures.gives ∙ ap (λ m. Ok (m, state c.comma.new.self)) c.if-not-more.false in
+    let f = goes_on added (λ qs. term c.args.allow c.args.text.now (scoped c.args.scope.now).names) (λ qs. fifth_term c.args.text.now (scoped c.args.scope.now).names) c.args.text.now c.args.stop (4 - c.loop-parts.parts.count) c.loop-parts.parts some _ (state c.loop-parts.self) c.loop-parts.invariant.1 c.in_ok-item.item (state c.term.new.self) c.in_ok-item.ensures.gives (state c.comma.new.self) k in
     let n : 4 - c.loop-parts.parts.count - 1 ≡ 4 - (c.loop-parts.parts.count + 1) = omega arith in
-    (omega arith, f ∙ ap (λ m. series added (λ qs. term c.args.allow c.args.text.now (scoped c.args.scope.now).names) (λ qs. fifth_term c.args.text.now (scoped c.args.scope.now).names) c.args.text.now c.args.stop m (added c.loop-parts.parts c.in-ok-item.item) (state c.comma.new.self)) n, search rules)
+    (omega arith, f ∙ ap (λ m. series added (λ qs. term c.args.allow c.args.text.now (scoped c.args.scope.now).names) (λ qs. fifth_term c.args.text.now (scoped c.args.scope.now).names) c.args.text.now c.args.stop m (added c.loop-parts.parts c.in_ok-item.item) (state c.comma.new.self)) n, search rules)
 
 pub list-returns : goal.list-returns
 list-returns t c =

@@ -2,13 +2,13 @@ use Rattle.std.proofs.Common.{rules}
 use Rattle.reader.specs.Tokens.{ahead}
 use Rattle.reader.proofs.tables.Reader.ahead.Goals as goal
 
-pub returns-in-err-found : goal.returns-in-err-found
+pub returns-in_err-found : goal.returns-in_err-found
 unfolding ahead
-returns-in-err-found c = search rules
+returns-in_err-found c = search rules
 
-pub returns-then-is-text : goal.returns-then-is-text
+pub returns-then-is_text : goal.returns-then-is_text
 unfolding ahead
-returns-then-is-text c = search rules
+returns-then-is_text c = search rules
 
 pub returns : goal.returns
 unfolding ahead

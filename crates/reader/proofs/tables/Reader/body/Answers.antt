@@ -2,17 +2,17 @@ use Rattle.std.proofs.Common.{rules}
 use Rattle.reader.specs.Whole.{body}
 use Rattle.reader.proofs.tables.Reader.body.Goals as goal
 
-pub returns-in-err-header : goal.returns-in-err-header
+pub returns-in_err-header : goal.returns-in_err-header
 unfolding body
-returns-in-err-header c = search rules
+returns-in_err-header c = search rules
 
-pub returns-in-err-process : goal.returns-in-err-process
+pub returns-in_err-process : goal.returns-in_err-process
 unfolding body
-returns-in-err-process c = search rules
+returns-in_err-process c = search rules
 
-pub returns-in-err-ending : goal.returns-in-err-ending
+pub returns-in_err-ending : goal.returns-in_err-ending
 unfolding body
-returns-in-err-ending c = search rules
+returns-in_err-ending c = search rules
 
 pub returns : goal.returns
 unfolding body

@@ -19,7 +19,7 @@ returns c =
     let e = ap (λ f. f (state c.args.self.now)) (cond-false (eqb c.args.allow 0) (fail (Limit c.args.place)) (open_row c.args.left Both c.args.scope.now.count c.args.place) (ne_eqb c.args.allow 0 c.if-allow-eq0.false)) in
     let more : 0 < c.args.allow = omega arith in
     record {
-      gives = subst (λ m. Gives m c.open-row.result (state c.open-row.new.self)) (sym e) c.open-row.ensures.gives;
+      gives = subst (λ m. Gives m c.open_row.result (state c.open_row.new.self)) (sym e) c.open_row.ensures.gives;
       same = search rules;
-      some = IfOk-weaker c.open-row.result (λ x. 0 < c.args.left) (λ x. (0 < c.args.left) × (0 < c.args.allow)) (λ x h. (h, more)) c.open-row.ensures.some;
+      some = IfOk-weaker c.open_row.result (λ x. 0 < c.args.left) (λ x. (0 < c.args.left) × (0 < c.args.allow)) (λ x h. (h, more)) c.open_row.ensures.some;
     }

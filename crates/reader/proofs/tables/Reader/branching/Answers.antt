@@ -2,9 +2,9 @@ use Rattle.std.proofs.Common.{rules}
 use Rattle.reader.specs.Heads.{branching}
 use Rattle.reader.proofs.tables.Reader.branching.Goals as goal
 
-pub returns-in-err-place : goal.returns-in-err-place
+pub returns-in_err-place : goal.returns-in_err-place
 unfolding branching
-returns-in-err-place c = search rules
+returns-in_err-place c = search rules
 
 pub returns-then-allow-eq0 : goal.returns-then-allow-eq0
 unfolding branching

@@ -2,17 +2,17 @@ use Rattle.std.proofs.Common.{rules}
 use Rattle.reader.specs.Tokens.{comma}
 use Rattle.reader.proofs.tables.Reader.comma.Goals as goal
 
-pub returns-in-err-found : goal.returns-in-err-found
+pub returns-in_err-found : goal.returns-in_err-found
 unfolding comma
-returns-in-err-found c = search rules
+returns-in_err-found c = search rules
 
-pub returns-then-is-mark : goal.returns-then-is-mark
+pub returns-then-is_mark : goal.returns-then-is_mark
 unfolding comma
-returns-then-is-mark c = search rules
+returns-then-is_mark c = search rules
 
-pub returns-then-is-mark-2 : goal.returns-then-is-mark-2
+pub returns-then-is_mark-2 : goal.returns-then-is_mark-2
 unfolding comma
-returns-then-is-mark-2 c = search rules
+returns-then-is_mark-2 c = search rules
 
 pub returns : goal.returns
 unfolding comma

@@ -6,32 +6,32 @@ use Rattle.reader.specs.Types.{declarations}
 use Rattle.reader.proofs.Declared.{ahead_fails, no_more, no_room, declaration_fails, one_more}
 use Rattle.reader.proofs.tables.Reader.declarations.Goals as goal
 
-pub returns-in-err-next : goal.returns-in-err-next
-returns-in-err-next c =
-    let f = ahead_fails (2184 - c.loop-next.types.count) c.args.text.now (declared c.loop-next.types) _ (state c.loop-next.self) c.loop-next.invariant.0 _ c.in-err-next.ensures.gives in
+pub returns-in_err-next : goal.returns-in_err-next
+returns-in_err-next c =
+    let f = ahead_fails (2184 - c.loop-next.types.count) c.args.text.now (declared c.loop-next.types) _ (state c.loop-next.self) c.loop-next.invariant.0 _ c.in_err-next.ensures.gives in
     record { gives = search rules; same = search rules }
 
 pub returns-in-None : goal.returns-in-None
 returns-in-None c =
-    let h : ahead c.args.text.now (codes "type") (state c.loop-next.self) ≡ Ok (None, state c.ahead.new.self) = c.in-ok-next.ensures.gives ∙ ap (λ o. Ok (o, state c.ahead.new.self)) c.in-None.is in
+    let h : ahead c.args.text.now (codes "type") (state c.loop-next.self) ≡ Ok (None, state c.ahead.new.self) = c.in_ok-next.ensures.gives ∙ ap (λ o. Ok (o, state c.ahead.new.self)) c.in-None.is in
     record { gives = no_more (2184 - c.loop-next.types.count) c.args.text.now (declared c.loop-next.types) _ (state c.loop-next.self) c.loop-next.invariant.0 (state c.ahead.new.self) h; same = search rules }
 
 pub returns-then-types-ge-MOST-WORDS : goal.returns-then-types-ge-MOST-WORDS
 returns-then-types-ge-MOST-WORDS c =
-    let h : ahead c.args.text.now (codes "type") (state c.loop-next.self) ≡ Ok (Some c.in-Some.first, state c.ahead.new.self) = c.in-ok-next.ensures.gives ∙ ap (λ o. Ok (o, state c.ahead.new.self)) c.in-Some.is in
+    let h : ahead c.args.text.now (codes "type") (state c.loop-next.self) ≡ Ok (Some c.in-Some.first, state c.ahead.new.self) = c.in_ok-next.ensures.gives ∙ ap (λ o. Ok (o, state c.ahead.new.self)) c.in-Some.is in
     record { gives = no_room (2184 - c.loop-next.types.count) c.args.text.now (declared c.loop-next.types) _ (state c.loop-next.self) c.loop-next.invariant.0 c.in-Some.first (state c.ahead.new.self) h (omega arith); same = search rules }
 
-pub returns-in-err-word : goal.returns-in-err-word
-returns-in-err-word c =
-    let h : ahead c.args.text.now (codes "type") (state c.loop-next.self) ≡ Ok (Some c.in-Some.first, state c.ahead.new.self) = c.in-ok-next.ensures.gives ∙ ap (λ o. Ok (o, state c.ahead.new.self)) c.in-Some.is in
+pub returns-in_err-word : goal.returns-in_err-word
+returns-in_err-word c =
+    let h : ahead c.args.text.now (codes "type") (state c.loop-next.self) ≡ Ok (Some c.in-Some.first, state c.ahead.new.self) = c.in_ok-next.ensures.gives ∙ ap (λ o. Ok (o, state c.ahead.new.self)) c.in-Some.is in
     let left : 0 < 2184 - c.loop-next.types.count = omega arith in
-    let f = declaration_fails (2184 - c.loop-next.types.count) c.args.text.now (declared c.loop-next.types) _ (state c.loop-next.self) c.loop-next.invariant.0 c.in-Some.first (state c.ahead.new.self) h left _ c.in-err-word.ensures.gives in
+    let f = declaration_fails (2184 - c.loop-next.types.count) c.args.text.now (declared c.loop-next.types) _ (state c.loop-next.self) c.loop-next.invariant.0 c.in-Some.first (state c.ahead.new.self) h left _ c.in_err-word.ensures.gives in
     record { gives = search rules; same = search rules }
 
 pub loop-next-preserved : goal.loop-next-preserved
 loop-next-preserved c =
-    let h : ahead c.args.text.now (codes "type") (state c.loop-next.self) ≡ Ok (Some c.in-Some.first, state c.ahead.new.self) = c.in-ok-next.ensures.gives ∙ ap (λ o. Ok (o, state c.ahead.new.self)) c.in-Some.is in
+    let h : ahead c.args.text.now (codes "type") (state c.loop-next.self) ≡ Ok (Some c.in-Some.first, state c.ahead.new.self) = c.in_ok-next.ensures.gives ∙ ap (λ o. Ok (o, state c.ahead.new.self)) c.in-Some.is in
     let left : 0 < 2184 - c.loop-next.types.count = omega arith in
-    let f = one_more (2184 - c.loop-next.types.count) c.args.text.now (declared c.loop-next.types) _ (state c.loop-next.self) c.loop-next.invariant.0 c.in-Some.first (state c.ahead.new.self) h left c.in-ok-word.word (state c.declaration.new.self) c.in-ok-word.ensures.gives in
+    let f = one_more (2184 - c.loop-next.types.count) c.args.text.now (declared c.loop-next.types) _ (state c.loop-next.self) c.loop-next.invariant.0 c.in-Some.first (state c.ahead.new.self) h left c.in_ok-word.word (state c.declaration.new.self) c.in_ok-word.ensures.gives in
     let n : 2184 - c.loop-next.types.count - 1 ≡ 2184 - c.declare.new.types.count = omega arith in
     (f ∙ ap (λ ts. declarations (2184 - c.loop-next.types.count - 1) c.args.text.now ts (state c.declaration.new.self)) (sym c.declare.ensures.bound) ∙ ap (λ m. declarations m c.args.text.now (declared c.declare.new.types) (state c.declaration.new.self)) n, search rules)

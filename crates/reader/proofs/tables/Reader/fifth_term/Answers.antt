@@ -2,17 +2,17 @@ use Rattle.std.proofs.Common.{rules}
 use Rattle.reader.specs.Terms.{fifth_term}
 use Rattle.reader.proofs.tables.Reader.fifth_term.Goals as goal
 
-pub returns-in-err-first : goal.returns-in-err-first
+pub returns-in_err-first : goal.returns-in_err-first
 unfolding fifth_term
-returns-in-err-first c = search rules
+returns-in_err-first c = search rules
 
-pub returns-then-is-some : goal.returns-then-is-some
+pub returns-then-is_some : goal.returns-then-is_some
 unfolding fifth_term
-returns-then-is-some c = search rules
+returns-then-is_some c = search rules
 
-pub returns-else-is-some : goal.returns-else-is-some
+pub returns-else-is_some : goal.returns-else-is_some
 unfolding fifth_term
-returns-else-is-some c = search rules
+returns-else-is_some c = search rules
 
 pub returns-in-KeyOf : goal.returns-in-KeyOf
 unfolding fifth_term

@@ -2,9 +2,9 @@ use Rattle.std.proofs.Common.{rules}
 use Rattle.reader.specs.Types.{fifth_type}
 use Rattle.reader.proofs.tables.Reader.fifth_type.Goals as goal
 
-pub returns-in-err-found : goal.returns-in-err-found
+pub returns-in_err-found : goal.returns-in_err-found
 unfolding fifth_type
-returns-in-err-found c = search rules
+returns-in_err-found c = search rules
 
 pub returns : goal.returns
 unfolding fifth_type

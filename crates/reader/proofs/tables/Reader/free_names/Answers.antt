@@ -8,30 +8,30 @@ use Rattle.reader.specs.Names.{bound, free_name, one_too_many, free_names}
 use Rattle.reader.proofs.Series.{one_too_many as no_room, item_fails, comma_fails, list_ends, goes_on}
 use Rattle.reader.proofs.tables.Reader.free_names.Goals as goal
 
-pub returns-in-err-item : goal.returns-in-err-item
-returns-in-err-item c =
+pub returns-in_err-item : goal.returns-in_err-item
+returns-in_err-item c =
     let some : 0 < 32 - c.loop-scope.scope.count = omega arith in
-    let f = item_fails bound (free_name c.args.text.now) (one_too_many c.args.text.now) c.args.text.now Semicolon (32 - c.loop-scope.scope.count) (scoped c.loop-scope.scope) some _ (state c.loop-scope.self) c.loop-scope.invariant.0 _ c.in-err-item.ensures.gives in
+    let f = item_fails bound (free_name c.args.text.now) (one_too_many c.args.text.now) c.args.text.now Semicolon (32 - c.loop-scope.scope.count) (scoped c.loop-scope.scope) some _ (state c.loop-scope.self) c.loop-scope.invariant.0 _ c.in_err-item.ensures.gives in
     record { gives = search rules; same = search rules }
 
-pub returns-in-err-more : goal.returns-in-err-more
-returns-in-err-more c =
+pub returns-in_err-more : goal.returns-in_err-more
+returns-in_err-more c =
     let some : 0 < 32 - c.loop-scope.scope.count = omega arith in
-    let f = comma_fails bound (free_name c.args.text.now) (one_too_many c.args.text.now) c.args.text.now Semicolon (32 - c.loop-scope.scope.count) (scoped c.loop-scope.scope) some _ (state c.loop-scope.self) c.loop-scope.invariant.0 c.in-ok-item.item (state c.free_name.new.self) c.in-ok-item.ensures.gives _ c.in-err-more.ensures.gives in
+    let f = comma_fails bound (free_name c.args.text.now) (one_too_many c.args.text.now) c.args.text.now Semicolon (32 - c.loop-scope.scope.count) (scoped c.loop-scope.scope) some _ (state c.loop-scope.self) c.loop-scope.invariant.0 c.in_ok-item.item (state c.free_name.new.self) c.in_ok-item.ensures.gives _ c.in_err-more.ensures.gives in
     record { gives = search rules; same = search rules }
 
 pub returns-then-not-more : goal.returns-then-not-more
 returns-then-not-more c =
     let some : 0 < 32 - c.loop-scope.scope.count = omega arith in
-    let k : comma c.args.text.now Semicolon (state c.free_name.new.self) ≡ Ok (false, state c.comma.new.self) = c.in-ok-more.ensures.gives ∙ ap (λ m. Ok (m, state c.comma.new.self)) c.if-not-more.true in
-    let f = list_ends bound (free_name c.args.text.now) (one_too_many c.args.text.now) c.args.text.now Semicolon (32 - c.loop-scope.scope.count) (scoped c.loop-scope.scope) some _ (state c.loop-scope.self) c.loop-scope.invariant.0 c.in-ok-item.item (state c.free_name.new.self) c.in-ok-item.ensures.gives (state c.comma.new.self) k in
+    let k : comma c.args.text.now Semicolon (state c.free_name.new.self) ≡ Ok (false, state c.comma.new.self) = c.in_ok-more.ensures.gives ∙ ap (λ m. Ok (m, state c.comma.new.self)) c.if-not-more.true in
+    let f = list_ends bound (free_name c.args.text.now) (one_too_many c.args.text.now) c.args.text.now Semicolon (32 - c.loop-scope.scope.count) (scoped c.loop-scope.scope) some _ (state c.loop-scope.self) c.loop-scope.invariant.0 c.in_ok-item.item (state c.free_name.new.self) c.in_ok-item.ensures.gives (state c.comma.new.self) k in
     record { gives = f ∙ ap (λ ns. Ok (ns, state c.comma.new.self)) (sym c.bind.ensures.bound); same = search rules }
 
 pub loop-scope-preserved : goal.loop-scope-preserved
 loop-scope-preserved c =
     let some : 0 < 32 - c.loop-scope.scope.count = omega arith in
-    let k : comma c.args.text.now Semicolon (state c.free_name.new.self) ≡ Ok (true, state c.comma.new.self) = c.in-ok-more.ensures.gives ∙ ap (λ m. Ok (m, state c.comma.new.self)) c.if-not-more.false in
-    let f = goes_on bound (free_name c.args.text.now) (one_too_many c.args.text.now) c.args.text.now Semicolon (32 - c.loop-scope.scope.count) (scoped c.loop-scope.scope) some _ (state c.loop-scope.self) c.loop-scope.invariant.0 c.in-ok-item.item (state c.free_name.new.self) c.in-ok-item.ensures.gives (state c.comma.new.self) k in
+    let k : comma c.args.text.now Semicolon (state c.free_name.new.self) ≡ Ok (true, state c.comma.new.self) = c.in_ok-more.ensures.gives ∙ ap (λ m. Ok (m, state c.comma.new.self)) c.if-not-more.false in
+    let f = goes_on bound (free_name c.args.text.now) (one_too_many c.args.text.now) c.args.text.now Semicolon (32 - c.loop-scope.scope.count) (scoped c.loop-scope.scope) some _ (state c.loop-scope.self) c.loop-scope.invariant.0 c.in_ok-item.item (state c.free_name.new.self) c.in_ok-item.ensures.gives (state c.comma.new.self) k in
     let n : 32 - c.loop-scope.scope.count - 1 ≡ 32 - c.bind.new.scope.count = omega arith in
     (f ∙ ap (λ ns. free_names (32 - c.loop-scope.scope.count - 1) c.args.text.now ns (state c.comma.new.self)) (sym c.bind.ensures.bound) ∙ ap (λ m. free_names m c.args.text.now (scoped c.bind.new.scope) (state c.comma.new.self)) n, search rules)
 

@@ -2,9 +2,9 @@ use Rattle.std.proofs.Common.{rules}
 use Rattle.reader.specs.Types.{kind}
 use Rattle.reader.proofs.tables.Reader.kind.Goals as goal
 
-pub returns-in-err-word : goal.returns-in-err-word
+pub returns-in_err-word : goal.returns-in_err-word
 unfolding kind
-returns-in-err-word c = search rules
+returns-in_err-word c = search rules
 
 pub returns-in-None : goal.returns-in-None
 unfolding kind

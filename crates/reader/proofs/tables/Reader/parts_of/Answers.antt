@@ -6,9 +6,9 @@ pub returns-then-is : goal.returns-then-is
 unfolding parts_of
 returns-then-is c = search rules
 
-pub returns-in-err-mark : goal.returns-in-err-mark
+pub returns-in_err-mark : goal.returns-in_err-mark
 unfolding parts_of
-returns-in-err-mark c = search rules
+returns-in_err-mark c = search rules
 
 pub returns : goal.returns
 unfolding parts_of

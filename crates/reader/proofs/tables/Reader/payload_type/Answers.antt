@@ -2,9 +2,9 @@ use Rattle.std.proofs.Common.{rules}
 use Rattle.reader.specs.Types.{payload_type}
 use Rattle.reader.proofs.tables.Reader.payload_type.Goals as goal
 
-pub returns-in-err-found : goal.returns-in-err-found
+pub returns-in_err-found : goal.returns-in_err-found
 unfolding payload_type
-returns-in-err-found c = search rules
+returns-in_err-found c = search rules
 
 pub returns : goal.returns
 unfolding payload_type

@@ -2,13 +2,13 @@ use Rattle.std.proofs.Common.{rules}
 use Rattle.reader.specs.Types.{type_named}
 use Rattle.reader.proofs.tables.Reader.type_named.Goals as goal
 
-pub returns-in-err-word : goal.returns-in-err-word
+pub returns-in_err-word : goal.returns-in_err-word
 unfolding type_named
-returns-in-err-word c = search rules
+returns-in_err-word c = search rules
 
-pub returns-then-is-text : goal.returns-then-is-text
+pub returns-then-is_text : goal.returns-then-is_text
 unfolding type_named
-returns-then-is-text c = search rules
+returns-then-is_text c = search rules
 
 pub returns-in-None : goal.returns-in-None
 unfolding type_named
@@ -18,6 +18,6 @@ pub returns-in-Some : goal.returns-in-Some
 unfolding type_named
 returns-in-Some c = search rules
 
-pub returns-in-default : goal.returns-in-default
+pub returns-in_default : goal.returns-in_default
 unfolding type_named
-returns-in-default c = search rules
+returns-in_default c = search rules
