@@ -23,7 +23,7 @@ state r = record { at = r.at; types = r.types.now; typed = r.typed; rows = r.row
 
 -- that a reader's tables are the ones that it was lent
 abbrev pub Same : Reader → Reader → Type 0
-Same a b = (a.types.name ≡ b.types.name) × (a.rows.name ≡ b.rows.name) × (a.places.name ≡ b.places.name) × (a.terms.name ≡ b.terms.name)
+Same a b = (a.types.ghost_name ≡ b.types.ghost_name) × (a.rows.ghost_name ≡ b.rows.ghost_name) × (a.places.ghost_name ≡ b.places.ghost_name) × (a.terms.ghost_name ≡ b.terms.ghost_name)
 
 -- an answer and the state after it, or the first fault
 abbrev pub Reads : Type 0 → Type 0

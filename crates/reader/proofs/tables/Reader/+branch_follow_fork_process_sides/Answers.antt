@@ -17,74 +17,74 @@ process-returns-in_err-first t c =
     let f = token_fails c.args.left c.args.text.now (declared c.args.types.now) c.args.allow (scoped c.args.scope.now) (state c.args.self.now) _ c.in_err-first.ensures.gives in
     record { gives = search rules; same = search rules; older = λ k h. refl }
 
-pub process-returns-in_err-new : goal.process-returns-in_err-new
-process-returns-in_err-new t c =
-    let f = arm c.args.left c.args.text.now (declared c.args.types.now) c.args.allow (scoped c.args.scope.now) (state c.args.self.now) c.in_ok-first.first (state c.take.new.self) c.in_ok-first.ensures.gives New c.in-New.ensures ∙ then_err (new_head c.args.text.now (declared c.args.types.now) (scoped c.args.scope.now) c.args.left c.in_ok-first.first.start) (λ h. follow h c.args.allow (scoped c.args.scope.now) (deeper c.args.left c.args.text.now (declared c.args.types.now))) (state c.take.new.self) _ c.in_err-new.ensures.gives in
+pub process-returns-in_err-new-in-New : goal.process-returns-in_err-new-in-New
+process-returns-in_err-new-in-New t c =
+    let f = arm c.args.left c.args.text.now (declared c.args.types.now) c.args.allow (scoped c.args.scope.now) (state c.args.self.now) c.in_ok-first.first (state c.take.new.self) c.in_ok-first.ensures.gives New c.in-New.ensures ∙ then_err (new_head c.args.text.now (declared c.args.types.now) (scoped c.args.scope.now) c.args.left c.in_ok-first.first.start) (λ h. follow h c.args.allow (scoped c.args.scope.now) (deeper c.args.left c.args.text.now (declared c.args.types.now))) (state c.take.new.self) _ c.in_err-new-in-New.ensures.gives in
     record { gives = search rules; same = search rules; older = λ k h. refl }
 
-pub process-returns-in_ok-new : goal.process-returns-in_ok-new
-process-returns-in_ok-new t c =
-    let f = arm c.args.left c.args.text.now (declared c.args.types.now) c.args.allow (scoped c.args.scope.now) (state c.args.self.now) c.in_ok-first.first (state c.take.new.self) c.in_ok-first.ensures.gives New c.in-New.ensures ∙ then_ok (new_head c.args.text.now (declared c.args.types.now) (scoped c.args.scope.now) c.args.left c.in_ok-first.first.start) (λ h. follow h c.args.allow (scoped c.args.scope.now) (deeper c.args.left c.args.text.now (declared c.args.types.now))) (state c.take.new.self) c.in_ok-new.new (state c.new_head.new.self) c.in_ok-new.ensures.gives in
+pub process-returns-in_ok-new-in-New : goal.process-returns-in_ok-new-in-New
+process-returns-in_ok-new-in-New t c =
+    let f = arm c.args.left c.args.text.now (declared c.args.types.now) c.args.allow (scoped c.args.scope.now) (state c.args.self.now) c.in_ok-first.first (state c.take.new.self) c.in_ok-first.ensures.gives New c.in-New.ensures ∙ then_ok (new_head c.args.text.now (declared c.args.types.now) (scoped c.args.scope.now) c.args.left c.in_ok-first.first.start) (λ h. follow h c.args.allow (scoped c.args.scope.now) (deeper c.args.left c.args.text.now (declared c.args.types.now))) (state c.take.new.self) c.in_ok-new-in-New.new (state c.new_head.new.self) c.in_ok-new-in-New.ensures.gives in
     record { gives = subst (λ m. Gives m c.follow.result (state c.follow.new.self)) (sym f) c.follow.ensures.gives; same = search rules; older = c.follow.ensures.older }
 
-pub process-returns-in_err-out : goal.process-returns-in_err-out
-process-returns-in_err-out t c =
-    let f = arm c.args.left c.args.text.now (declared c.args.types.now) c.args.allow (scoped c.args.scope.now) (state c.args.self.now) c.in_ok-first.first (state c.take.new.self) c.in_ok-first.ensures.gives Out c.in-Out.ensures ∙ then_err (out_head c.args.text.now (scoped c.args.scope.now) c.args.left c.in_ok-first.first.start) (λ h. follow h c.args.allow (scoped c.args.scope.now) (deeper c.args.left c.args.text.now (declared c.args.types.now))) (state c.take.new.self) _ c.in_err-out.ensures.gives in
+pub process-returns-in_err-out-in-Out : goal.process-returns-in_err-out-in-Out
+process-returns-in_err-out-in-Out t c =
+    let f = arm c.args.left c.args.text.now (declared c.args.types.now) c.args.allow (scoped c.args.scope.now) (state c.args.self.now) c.in_ok-first.first (state c.take.new.self) c.in_ok-first.ensures.gives Out c.in-Out.ensures ∙ then_err (out_head c.args.text.now (scoped c.args.scope.now) c.args.left c.in_ok-first.first.start) (λ h. follow h c.args.allow (scoped c.args.scope.now) (deeper c.args.left c.args.text.now (declared c.args.types.now))) (state c.take.new.self) _ c.in_err-out-in-Out.ensures.gives in
     record { gives = search rules; same = search rules; older = λ k h. refl }
 
-pub process-returns-in_ok-out : goal.process-returns-in_ok-out
-process-returns-in_ok-out t c =
-    let f = arm c.args.left c.args.text.now (declared c.args.types.now) c.args.allow (scoped c.args.scope.now) (state c.args.self.now) c.in_ok-first.first (state c.take.new.self) c.in_ok-first.ensures.gives Out c.in-Out.ensures ∙ then_ok (out_head c.args.text.now (scoped c.args.scope.now) c.args.left c.in_ok-first.first.start) (λ h. follow h c.args.allow (scoped c.args.scope.now) (deeper c.args.left c.args.text.now (declared c.args.types.now))) (state c.take.new.self) c.in_ok-out.out (state c.out_head.new.self) c.in_ok-out.ensures.gives in
+pub process-returns-in_ok-out-in-Out : goal.process-returns-in_ok-out-in-Out
+process-returns-in_ok-out-in-Out t c =
+    let f = arm c.args.left c.args.text.now (declared c.args.types.now) c.args.allow (scoped c.args.scope.now) (state c.args.self.now) c.in_ok-first.first (state c.take.new.self) c.in_ok-first.ensures.gives Out c.in-Out.ensures ∙ then_ok (out_head c.args.text.now (scoped c.args.scope.now) c.args.left c.in_ok-first.first.start) (λ h. follow h c.args.allow (scoped c.args.scope.now) (deeper c.args.left c.args.text.now (declared c.args.types.now))) (state c.take.new.self) c.in_ok-out-in-Out.out (state c.out_head.new.self) c.in_ok-out-in-Out.ensures.gives in
     record { gives = subst (λ m. Gives m c.follow-in-Out.result (state c.follow-in-Out.new.self)) (sym f) c.follow-in-Out.ensures.gives; same = search rules; older = c.follow-in-Out.ensures.older }
 
-pub process-returns-in_err-input : goal.process-returns-in_err-input
-process-returns-in_err-input t c =
-    let f = arm c.args.left c.args.text.now (declared c.args.types.now) c.args.allow (scoped c.args.scope.now) (state c.args.self.now) c.in_ok-first.first (state c.take.new.self) c.in_ok-first.ensures.gives In c.in-In.ensures ∙ then_err (in_head c.args.text.now (scoped c.args.scope.now) c.args.left c.in_ok-first.first.start) (λ h. follow h c.args.allow (scoped c.args.scope.now) (deeper c.args.left c.args.text.now (declared c.args.types.now))) (state c.take.new.self) _ c.in_err-input.ensures.gives in
+pub process-returns-in_err-input-in-In : goal.process-returns-in_err-input-in-In
+process-returns-in_err-input-in-In t c =
+    let f = arm c.args.left c.args.text.now (declared c.args.types.now) c.args.allow (scoped c.args.scope.now) (state c.args.self.now) c.in_ok-first.first (state c.take.new.self) c.in_ok-first.ensures.gives In c.in-In.ensures ∙ then_err (in_head c.args.text.now (scoped c.args.scope.now) c.args.left c.in_ok-first.first.start) (λ h. follow h c.args.allow (scoped c.args.scope.now) (deeper c.args.left c.args.text.now (declared c.args.types.now))) (state c.take.new.self) _ c.in_err-input-in-In.ensures.gives in
     record { gives = search rules; same = search rules; older = λ k h. refl }
 
-pub process-returns-in_ok-input : goal.process-returns-in_ok-input
-process-returns-in_ok-input t c =
-    let f = arm c.args.left c.args.text.now (declared c.args.types.now) c.args.allow (scoped c.args.scope.now) (state c.args.self.now) c.in_ok-first.first (state c.take.new.self) c.in_ok-first.ensures.gives In c.in-In.ensures ∙ then_ok (in_head c.args.text.now (scoped c.args.scope.now) c.args.left c.in_ok-first.first.start) (λ h. follow h c.args.allow (scoped c.args.scope.now) (deeper c.args.left c.args.text.now (declared c.args.types.now))) (state c.take.new.self) c.in_ok-input.input (state c.in_head.new.self) c.in_ok-input.ensures.gives in
+pub process-returns-in_ok-input-in-In : goal.process-returns-in_ok-input-in-In
+process-returns-in_ok-input-in-In t c =
+    let f = arm c.args.left c.args.text.now (declared c.args.types.now) c.args.allow (scoped c.args.scope.now) (state c.args.self.now) c.in_ok-first.first (state c.take.new.self) c.in_ok-first.ensures.gives In c.in-In.ensures ∙ then_ok (in_head c.args.text.now (scoped c.args.scope.now) c.args.left c.in_ok-first.first.start) (λ h. follow h c.args.allow (scoped c.args.scope.now) (deeper c.args.left c.args.text.now (declared c.args.types.now))) (state c.take.new.self) c.in_ok-input-in-In.input (state c.in_head.new.self) c.in_ok-input-in-In.ensures.gives in
     record { gives = subst (λ m. Gives m c.follow-in-In.result (state c.follow-in-In.new.self)) (sym f) c.follow-in-In.ensures.gives; same = search rules; older = c.follow-in-In.ensures.older }
 
-pub process-returns-in_err-again : goal.process-returns-in_err-again
-process-returns-in_err-again t c =
-    let f = arm c.args.left c.args.text.now (declared c.args.types.now) c.args.allow (scoped c.args.scope.now) (state c.args.self.now) c.in_ok-first.first (state c.take.new.self) c.in_ok-first.ensures.gives Again c.in-Again.ensures ∙ then_err (again_head (scoped c.args.scope.now) c.args.left c.in_ok-first.first.start) (λ h. follow h c.args.allow (scoped c.args.scope.now) (deeper c.args.left c.args.text.now (declared c.args.types.now))) (state c.take.new.self) _ c.in_err-again.ensures.gives in
+pub process-returns-in_err-again-in-Again : goal.process-returns-in_err-again-in-Again
+process-returns-in_err-again-in-Again t c =
+    let f = arm c.args.left c.args.text.now (declared c.args.types.now) c.args.allow (scoped c.args.scope.now) (state c.args.self.now) c.in_ok-first.first (state c.take.new.self) c.in_ok-first.ensures.gives Again c.in-Again.ensures ∙ then_err (again_head (scoped c.args.scope.now) c.args.left c.in_ok-first.first.start) (λ h. follow h c.args.allow (scoped c.args.scope.now) (deeper c.args.left c.args.text.now (declared c.args.types.now))) (state c.take.new.self) _ c.in_err-again-in-Again.ensures.gives in
     record { gives = search rules; same = search rules; older = λ k h. refl }
 
-pub process-returns-in_ok-again : goal.process-returns-in_ok-again
-process-returns-in_ok-again t c =
-    let f = arm c.args.left c.args.text.now (declared c.args.types.now) c.args.allow (scoped c.args.scope.now) (state c.args.self.now) c.in_ok-first.first (state c.take.new.self) c.in_ok-first.ensures.gives Again c.in-Again.ensures ∙ then_ok (again_head (scoped c.args.scope.now) c.args.left c.in_ok-first.first.start) (λ h. follow h c.args.allow (scoped c.args.scope.now) (deeper c.args.left c.args.text.now (declared c.args.types.now))) (state c.take.new.self) c.in_ok-again.again (state c.again_head.new.self) c.in_ok-again.ensures.gives in
+pub process-returns-in_ok-again-in-Again : goal.process-returns-in_ok-again-in-Again
+process-returns-in_ok-again-in-Again t c =
+    let f = arm c.args.left c.args.text.now (declared c.args.types.now) c.args.allow (scoped c.args.scope.now) (state c.args.self.now) c.in_ok-first.first (state c.take.new.self) c.in_ok-first.ensures.gives Again c.in-Again.ensures ∙ then_ok (again_head (scoped c.args.scope.now) c.args.left c.in_ok-first.first.start) (λ h. follow h c.args.allow (scoped c.args.scope.now) (deeper c.args.left c.args.text.now (declared c.args.types.now))) (state c.take.new.self) c.in_ok-again-in-Again.again (state c.again_head.new.self) c.in_ok-again-in-Again.ensures.gives in
     record { gives = subst (λ m. Gives m c.follow-in-Again.result (state c.follow-in-Again.new.self)) (sym f) c.follow-in-Again.ensures.gives; same = search rules; older = c.follow-in-Again.ensures.older }
 
-pub process-returns-in_err-opening : goal.process-returns-in_err-opening
-process-returns-in_err-opening t c =
-    let f = arm c.args.left c.args.text.now (declared c.args.types.now) c.args.allow (scoped c.args.scope.now) (state c.args.self.now) c.in_ok-first.first (state c.take.new.self) c.in_ok-first.ensures.gives (Opening c.in-Opening.kind) c.in-Opening.ensures ∙ then_err (opening_head c.in-Opening.kind c.args.text.now (scoped c.args.scope.now) c.args.left c.in_ok-first.first.start) (λ h. follow h c.args.allow (scoped c.args.scope.now) (deeper c.args.left c.args.text.now (declared c.args.types.now))) (state c.take.new.self) _ c.in_err-opening.ensures.gives in
+pub process-returns-in_err-opening-in-Opening : goal.process-returns-in_err-opening-in-Opening
+process-returns-in_err-opening-in-Opening t c =
+    let f = arm c.args.left c.args.text.now (declared c.args.types.now) c.args.allow (scoped c.args.scope.now) (state c.args.self.now) c.in_ok-first.first (state c.take.new.self) c.in_ok-first.ensures.gives (Opening c.in-Opening.kind) c.in-Opening.ensures ∙ then_err (opening_head c.in-Opening.kind c.args.text.now (scoped c.args.scope.now) c.args.left c.in_ok-first.first.start) (λ h. follow h c.args.allow (scoped c.args.scope.now) (deeper c.args.left c.args.text.now (declared c.args.types.now))) (state c.take.new.self) _ c.in_err-opening-in-Opening.ensures.gives in
     record { gives = search rules; same = search rules; older = λ k h. refl }
 
-pub process-returns-in_ok-opening : goal.process-returns-in_ok-opening
-process-returns-in_ok-opening t c =
-    let f = arm c.args.left c.args.text.now (declared c.args.types.now) c.args.allow (scoped c.args.scope.now) (state c.args.self.now) c.in_ok-first.first (state c.take.new.self) c.in_ok-first.ensures.gives (Opening c.in-Opening.kind) c.in-Opening.ensures ∙ then_ok (opening_head c.in-Opening.kind c.args.text.now (scoped c.args.scope.now) c.args.left c.in_ok-first.first.start) (λ h. follow h c.args.allow (scoped c.args.scope.now) (deeper c.args.left c.args.text.now (declared c.args.types.now))) (state c.take.new.self) c.in_ok-opening.opening (state c.opening_head.new.self) c.in_ok-opening.ensures.gives in
+pub process-returns-in_ok-opening-in-Opening : goal.process-returns-in_ok-opening-in-Opening
+process-returns-in_ok-opening-in-Opening t c =
+    let f = arm c.args.left c.args.text.now (declared c.args.types.now) c.args.allow (scoped c.args.scope.now) (state c.args.self.now) c.in_ok-first.first (state c.take.new.self) c.in_ok-first.ensures.gives (Opening c.in-Opening.kind) c.in-Opening.ensures ∙ then_ok (opening_head c.in-Opening.kind c.args.text.now (scoped c.args.scope.now) c.args.left c.in_ok-first.first.start) (λ h. follow h c.args.allow (scoped c.args.scope.now) (deeper c.args.left c.args.text.now (declared c.args.types.now))) (state c.take.new.self) c.in_ok-opening-in-Opening.opening (state c.opening_head.new.self) c.in_ok-opening-in-Opening.ensures.gives in
     record { gives = subst (λ m. Gives m c.follow-in-Opening.result (state c.follow-in-Opening.new.self)) (sym f) c.follow-in-Opening.ensures.gives; same = search rules; older = c.follow-in-Opening.ensures.older }
 
-pub process-returns-in_err-both : goal.process-returns-in_err-both
-process-returns-in_err-both t c =
-    let f = arm c.args.left c.args.text.now (declared c.args.types.now) c.args.allow (scoped c.args.scope.now) (state c.args.self.now) c.in_ok-first.first (state c.take.new.self) c.in_ok-first.ensures.gives Both c.in-Both.ensures ∙ then_err (both_head (scoped c.args.scope.now) c.args.allow c.args.left c.in_ok-first.first.start) (λ i. forked Bracket i c.args.allow c.args.text.now (scoped c.args.scope.now) (deeper c.args.left c.args.text.now (declared c.args.types.now))) (state c.take.new.self) _ c.in_err-both.ensures.gives in
+pub process-returns-in_err-both-in-Both : goal.process-returns-in_err-both-in-Both
+process-returns-in_err-both-in-Both t c =
+    let f = arm c.args.left c.args.text.now (declared c.args.types.now) c.args.allow (scoped c.args.scope.now) (state c.args.self.now) c.in_ok-first.first (state c.take.new.self) c.in_ok-first.ensures.gives Both c.in-Both.ensures ∙ then_err (both_head (scoped c.args.scope.now) c.args.allow c.args.left c.in_ok-first.first.start) (λ i. forked Bracket i c.args.allow c.args.text.now (scoped c.args.scope.now) (deeper c.args.left c.args.text.now (declared c.args.types.now))) (state c.take.new.self) _ c.in_err-both-in-Both.ensures.gives in
     record { gives = search rules; same = search rules; older = λ k h. refl }
 
-pub process-returns-in_ok-both : goal.process-returns-in_ok-both
-process-returns-in_ok-both t c =
-    let f = arm c.args.left c.args.text.now (declared c.args.types.now) c.args.allow (scoped c.args.scope.now) (state c.args.self.now) c.in_ok-first.first (state c.take.new.self) c.in_ok-first.ensures.gives Both c.in-Both.ensures ∙ then_ok (both_head (scoped c.args.scope.now) c.args.allow c.args.left c.in_ok-first.first.start) (λ i. forked Bracket i c.args.allow c.args.text.now (scoped c.args.scope.now) (deeper c.args.left c.args.text.now (declared c.args.types.now))) (state c.take.new.self) c.in_ok-both.both (state c.both_head.new.self) c.in_ok-both.ensures.gives in
+pub process-returns-in_ok-both-in-Both : goal.process-returns-in_ok-both-in-Both
+process-returns-in_ok-both-in-Both t c =
+    let f = arm c.args.left c.args.text.now (declared c.args.types.now) c.args.allow (scoped c.args.scope.now) (state c.args.self.now) c.in_ok-first.first (state c.take.new.self) c.in_ok-first.ensures.gives Both c.in-Both.ensures ∙ then_ok (both_head (scoped c.args.scope.now) c.args.allow c.args.left c.in_ok-first.first.start) (λ i. forked Bracket i c.args.allow c.args.text.now (scoped c.args.scope.now) (deeper c.args.left c.args.text.now (declared c.args.types.now))) (state c.take.new.self) c.in_ok-both-in-Both.both (state c.both_head.new.self) c.in_ok-both-in-Both.ensures.gives in
     record { gives = subst (λ m. Gives m c.fork.result (state c.fork.new.self)) (sym f) c.fork.ensures.gives; same = search rules; older = c.fork.ensures.kept.older }
 
-pub process-returns-in_err-test : goal.process-returns-in_err-test
-process-returns-in_err-test t c =
-    let f = arm c.args.left c.args.text.now (declared c.args.types.now) c.args.allow (scoped c.args.scope.now) (state c.args.self.now) c.in_ok-first.first (state c.take.new.self) c.in_ok-first.ensures.gives If c.in-If.ensures ∙ then_err (if_head c.args.text.now (scoped c.args.scope.now) c.args.allow c.args.left c.in_ok-first.first.start) (λ i. forked Branch i c.args.allow c.args.text.now (scoped c.args.scope.now) (deeper c.args.left c.args.text.now (declared c.args.types.now))) (state c.take.new.self) _ c.in_err-test.ensures.gives in
+pub process-returns-in_err-test-in-If : goal.process-returns-in_err-test-in-If
+process-returns-in_err-test-in-If t c =
+    let f = arm c.args.left c.args.text.now (declared c.args.types.now) c.args.allow (scoped c.args.scope.now) (state c.args.self.now) c.in_ok-first.first (state c.take.new.self) c.in_ok-first.ensures.gives If c.in-If.ensures ∙ then_err (if_head c.args.text.now (scoped c.args.scope.now) c.args.allow c.args.left c.in_ok-first.first.start) (λ i. forked Branch i c.args.allow c.args.text.now (scoped c.args.scope.now) (deeper c.args.left c.args.text.now (declared c.args.types.now))) (state c.take.new.self) _ c.in_err-test-in-If.ensures.gives in
     record { gives = search rules; same = search rules; older = λ k h. refl }
 
-pub process-returns-in_ok-test : goal.process-returns-in_ok-test
-process-returns-in_ok-test t c =
-    let f = arm c.args.left c.args.text.now (declared c.args.types.now) c.args.allow (scoped c.args.scope.now) (state c.args.self.now) c.in_ok-first.first (state c.take.new.self) c.in_ok-first.ensures.gives If c.in-If.ensures ∙ then_ok (if_head c.args.text.now (scoped c.args.scope.now) c.args.allow c.args.left c.in_ok-first.first.start) (λ i. forked Branch i c.args.allow c.args.text.now (scoped c.args.scope.now) (deeper c.args.left c.args.text.now (declared c.args.types.now))) (state c.take.new.self) c.in_ok-test.test (state c.if_head.new.self) c.in_ok-test.ensures.gives in
+pub process-returns-in_ok-test-in-If : goal.process-returns-in_ok-test-in-If
+process-returns-in_ok-test-in-If t c =
+    let f = arm c.args.left c.args.text.now (declared c.args.types.now) c.args.allow (scoped c.args.scope.now) (state c.args.self.now) c.in_ok-first.first (state c.take.new.self) c.in_ok-first.ensures.gives If c.in-If.ensures ∙ then_ok (if_head c.args.text.now (scoped c.args.scope.now) c.args.allow c.args.left c.in_ok-first.first.start) (λ i. forked Branch i c.args.allow c.args.text.now (scoped c.args.scope.now) (deeper c.args.left c.args.text.now (declared c.args.types.now))) (state c.take.new.self) c.in_ok-test-in-If.test (state c.if_head.new.self) c.in_ok-test-in-If.ensures.gives in
     record { gives = subst (λ m. Gives m c.fork-in-If.result (state c.fork-in-If.new.self)) (sym f) c.fork-in-If.ensures.gives; same = search rules; older = c.fork-in-If.ensures.kept.older }
 
 pub process-returns-in-Stop : goal.process-returns-in-Stop

@@ -12,11 +12,11 @@ use Rattle.reader.proofs.tables.Reader.+list_term.Goals as goal
 pub term-returns-in_err-first : goal.term-returns-in_err-first
 term-returns-in_err-first t c = record { gives = before_bracket c.args.allow c.args.text.now (scoped c.args.scope.now).names (state c.args.self.now) _ _ (search rules); same = search rules }
 
-pub term-returns-in_err-inner : goal.term-returns-in_err-inner
-term-returns-in_err-inner t c = record { gives = before_bracket c.args.allow c.args.text.now (scoped c.args.scope.now).names (state c.args.self.now) _ _ (search rules); same = search rules }
+pub term-returns-in_err-inner-in-KeyOf : goal.term-returns-in_err-inner-in-KeyOf
+term-returns-in_err-inner-in-KeyOf t c = record { gives = before_bracket c.args.allow c.args.text.now (scoped c.args.scope.now).names (state c.args.self.now) _ _ (search rules); same = search rules }
 
-pub term-returns-in_err-inner-2 : goal.term-returns-in_err-inner-2
-term-returns-in_err-inner-2 t c = record { gives = before_bracket c.args.allow c.args.text.now (scoped c.args.scope.now).names (state c.args.self.now) _ _ (search rules); same = search rules }
+pub term-returns-in_err-inner-in-Under : goal.term-returns-in_err-inner-in-Under
+term-returns-in_err-inner-in-Under t c = record { gives = before_bracket c.args.allow c.args.text.now (scoped c.args.scope.now).names (state c.args.self.now) _ _ (search rules); same = search rules }
 
 pub term-returns-in-Name : goal.term-returns-in-Name
 term-returns-in-Name t c = record { gives = before_bracket c.args.allow c.args.text.now (scoped c.args.scope.now).names (state c.args.self.now) _ _ (search rules); same = search rules }
@@ -24,26 +24,26 @@ term-returns-in-Name t c = record { gives = before_bracket c.args.allow c.args.t
 pub term-returns-in-Reserved : goal.term-returns-in-Reserved
 term-returns-in-Reserved t c = record { gives = before_bracket c.args.allow c.args.text.now (scoped c.args.scope.now).names (state c.args.self.now) (Err (Grammar c.in_ok-first.first.start)) (state c.args.self.now) (search rules); same = search rules }
 
-pub term-returns-in_err-key : goal.term-returns-in_err-key
-term-returns-in_err-key t c = record { gives = in_bracket c.args.allow c.args.text.now (scoped c.args.scope.now).names (state c.args.self.now) _ _ c.in_ok-inner.inner c.in_ok-inner.ensures.falls (search rules); same = search rules }
+pub term-returns-in_err-key-in-KeyOf : goal.term-returns-in_err-key-in-KeyOf
+term-returns-in_err-key-in-KeyOf t c = record { gives = in_bracket c.args.allow c.args.text.now (scoped c.args.scope.now).names (state c.args.self.now) _ _ c.in_ok-inner-in-KeyOf.inner c.in_ok-inner-in-KeyOf.ensures.falls (search rules); same = search rules }
 
-pub term-returns-in_err-mark : goal.term-returns-in_err-mark
-term-returns-in_err-mark t c = record { gives = in_bracket c.args.allow c.args.text.now (scoped c.args.scope.now).names (state c.args.self.now) _ _ c.in_ok-inner.inner c.in_ok-inner.ensures.falls (search rules); same = search rules }
+pub term-returns-in_err-mark-in-KeyOf : goal.term-returns-in_err-mark-in-KeyOf
+term-returns-in_err-mark-in-KeyOf t c = record { gives = in_bracket c.args.allow c.args.text.now (scoped c.args.scope.now).names (state c.args.self.now) _ _ c.in_ok-inner-in-KeyOf.inner c.in_ok-inner-in-KeyOf.ensures.falls (search rules); same = search rules }
 
-pub term-returns-in_ok-mark : goal.term-returns-in_ok-mark
-term-returns-in_ok-mark t c = record { gives = in_bracket c.args.allow c.args.text.now (scoped c.args.scope.now).names (state c.args.self.now) _ _ c.in_ok-inner.inner c.in_ok-inner.ensures.falls (search rules); same = search rules }
+pub term-returns-in_ok-mark-in-KeyOf : goal.term-returns-in_ok-mark-in-KeyOf
+term-returns-in_ok-mark-in-KeyOf t c = record { gives = in_bracket c.args.allow c.args.text.now (scoped c.args.scope.now).names (state c.args.self.now) _ _ c.in_ok-inner-in-KeyOf.inner c.in_ok-inner-in-KeyOf.ensures.falls (search rules); same = search rules }
 
-pub term-returns-in_err-parts : goal.term-returns-in_err-parts
-term-returns-in_err-parts t c = record { gives = in_bracket c.args.allow c.args.text.now (scoped c.args.scope.now).names (state c.args.self.now) _ _ c.in_ok-inner-2.inner c.in_ok-inner-2.ensures.falls (search rules); same = search rules }
+pub term-returns-in_err-parts-in-Under : goal.term-returns-in_err-parts-in-Under
+term-returns-in_err-parts-in-Under t c = record { gives = in_bracket c.args.allow c.args.text.now (scoped c.args.scope.now).names (state c.args.self.now) _ _ c.in_ok-inner-in-Under.inner c.in_ok-inner-in-Under.ensures.falls (search rules); same = search rules }
 
-pub term-returns-in_err-key-2 : goal.term-returns-in_err-key-2
-term-returns-in_err-key-2 t c = record { gives = in_bracket c.args.allow c.args.text.now (scoped c.args.scope.now).names (state c.args.self.now) _ _ c.in_ok-inner-2.inner c.in_ok-inner-2.ensures.falls (search rules); same = search rules }
+pub term-returns-in_err-key-in-Under : goal.term-returns-in_err-key-in-Under
+term-returns-in_err-key-in-Under t c = record { gives = in_bracket c.args.allow c.args.text.now (scoped c.args.scope.now).names (state c.args.self.now) _ _ c.in_ok-inner-in-Under.inner c.in_ok-inner-in-Under.ensures.falls (search rules); same = search rules }
 
-pub term-returns-in_err-mark-2 : goal.term-returns-in_err-mark-2
-term-returns-in_err-mark-2 t c = record { gives = in_bracket c.args.allow c.args.text.now (scoped c.args.scope.now).names (state c.args.self.now) _ _ c.in_ok-inner-2.inner c.in_ok-inner-2.ensures.falls (search rules); same = search rules }
+pub term-returns-in_err-mark-in-Under : goal.term-returns-in_err-mark-in-Under
+term-returns-in_err-mark-in-Under t c = record { gives = in_bracket c.args.allow c.args.text.now (scoped c.args.scope.now).names (state c.args.self.now) _ _ c.in_ok-inner-in-Under.inner c.in_ok-inner-in-Under.ensures.falls (search rules); same = search rules }
 
-pub term-returns-in_ok-mark-2 : goal.term-returns-in_ok-mark-2
-term-returns-in_ok-mark-2 t c = record { gives = in_bracket c.args.allow c.args.text.now (scoped c.args.scope.now).names (state c.args.self.now) _ _ c.in_ok-inner-2.inner c.in_ok-inner-2.ensures.falls (search rules); same = search rules }
+pub term-returns-in_ok-mark-in-Under : goal.term-returns-in_ok-mark-in-Under
+term-returns-in_ok-mark-in-Under t c = record { gives = in_bracket c.args.allow c.args.text.now (scoped c.args.scope.now).names (state c.args.self.now) _ _ c.in_ok-inner-in-Under.inner c.in_ok-inner-in-Under.ensures.falls (search rules); same = search rules }
 
 pub list-returns-in_err-item : goal.list-returns-in_err-item
 list-returns-in_err-item t c =

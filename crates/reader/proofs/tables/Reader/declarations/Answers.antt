@@ -16,22 +16,22 @@ returns-in-None c =
     let h : ahead c.args.text.now (codes "type") (state c.loop-next.self) ≡ Ok (None, state c.ahead.new.self) = c.in_ok-next.ensures.gives ∙ ap (λ o. Ok (o, state c.ahead.new.self)) c.in-None.is in
     record { gives = no_more (2184 - c.loop-next.types.count) c.args.text.now (declared c.loop-next.types) _ (state c.loop-next.self) c.loop-next.invariant.0 (state c.ahead.new.self) h; same = search rules }
 
-pub returns-then-types-ge-MOST-WORDS : goal.returns-then-types-ge-MOST-WORDS
-returns-then-types-ge-MOST-WORDS c =
+pub returns-then-types-ge-MOST_WORDS : goal.returns-then-types-ge-MOST_WORDS
+returns-then-types-ge-MOST_WORDS c =
     let h : ahead c.args.text.now (codes "type") (state c.loop-next.self) ≡ Ok (Some c.in-Some.first, state c.ahead.new.self) = c.in_ok-next.ensures.gives ∙ ap (λ o. Ok (o, state c.ahead.new.self)) c.in-Some.is in
     record { gives = no_room (2184 - c.loop-next.types.count) c.args.text.now (declared c.loop-next.types) _ (state c.loop-next.self) c.loop-next.invariant.0 c.in-Some.first (state c.ahead.new.self) h (omega arith); same = search rules }
 
-pub returns-in_err-word : goal.returns-in_err-word
-returns-in_err-word c =
+pub returns-in_err-word-in-Some : goal.returns-in_err-word-in-Some
+returns-in_err-word-in-Some c =
     let h : ahead c.args.text.now (codes "type") (state c.loop-next.self) ≡ Ok (Some c.in-Some.first, state c.ahead.new.self) = c.in_ok-next.ensures.gives ∙ ap (λ o. Ok (o, state c.ahead.new.self)) c.in-Some.is in
     let left : 0 < 2184 - c.loop-next.types.count = omega arith in
-    let f = declaration_fails (2184 - c.loop-next.types.count) c.args.text.now (declared c.loop-next.types) _ (state c.loop-next.self) c.loop-next.invariant.0 c.in-Some.first (state c.ahead.new.self) h left _ c.in_err-word.ensures.gives in
+    let f = declaration_fails (2184 - c.loop-next.types.count) c.args.text.now (declared c.loop-next.types) _ (state c.loop-next.self) c.loop-next.invariant.0 c.in-Some.first (state c.ahead.new.self) h left _ c.in_err-word-in-Some.ensures.gives in
     record { gives = search rules; same = search rules }
 
 pub loop-next-preserved : goal.loop-next-preserved
 loop-next-preserved c =
     let h : ahead c.args.text.now (codes "type") (state c.loop-next.self) ≡ Ok (Some c.in-Some.first, state c.ahead.new.self) = c.in_ok-next.ensures.gives ∙ ap (λ o. Ok (o, state c.ahead.new.self)) c.in-Some.is in
     let left : 0 < 2184 - c.loop-next.types.count = omega arith in
-    let f = one_more (2184 - c.loop-next.types.count) c.args.text.now (declared c.loop-next.types) _ (state c.loop-next.self) c.loop-next.invariant.0 c.in-Some.first (state c.ahead.new.self) h left c.in_ok-word.word (state c.declaration.new.self) c.in_ok-word.ensures.gives in
+    let f = one_more (2184 - c.loop-next.types.count) c.args.text.now (declared c.loop-next.types) _ (state c.loop-next.self) c.loop-next.invariant.0 c.in-Some.first (state c.ahead.new.self) h left c.in_ok-word-in-Some.word (state c.declaration.new.self) c.in_ok-word-in-Some.ensures.gives in
     let n : 2184 - c.loop-next.types.count - 1 ≡ 2184 - c.declare.new.types.count = omega arith in
     (f ∙ ap (λ ts. declarations (2184 - c.loop-next.types.count - 1) c.args.text.now ts (state c.declaration.new.self)) (sym c.declare.ensures.bound) ∙ ap (λ m. declarations m c.args.text.now (declared c.declare.new.types) (state c.declaration.new.self)) n, search rules)
