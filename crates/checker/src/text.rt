@@ -8,7 +8,6 @@ use checking::{Refusal, check};
 use levels::Scheme;
 use reader::read;
 use rows::{Listing, ProcessKind, ProcessRow, TermKind, TermRow, TypeRow};
-use scanning::Scope;
 use shape::ShapeFault;
 
 // What is noted for a row, and 0 for a row that is not there.
@@ -72,7 +71,6 @@ pub fn check_text<S: Scheme>(s: &S, text: &[u8]) -> Result<usize, CheckFault>
     let mut processes = [no_row(); 512];
     let mut terms = [no_term(); 2048];
     let mut places = [0u16; 512];
-    let mut scope = Scope::new();
     let counts = read(
         text,
         s.open(),
@@ -80,7 +78,6 @@ pub fn check_text<S: Scheme>(s: &S, text: &[u8]) -> Result<usize, CheckFault>
         &mut processes,
         &mut terms,
         &mut places,
-        &mut scope,
     )?;
     let l = Listing {
         types: &types[0..(counts.types as usize).min(64)],

@@ -13,4 +13,4 @@ mod types;
 mod whole;
 
 pub use scanning::{ListingFault, Scope};
-pub use whole::{Counts, examples_hold, read};
+pub use whole::{Counts, examples_hold, read, read_with_scope};

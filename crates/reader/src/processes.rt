@@ -38,7 +38,7 @@ impl Drop for Kept<'_> {
 }
 
 // More names in scope.
-fn bind_all(scope: &mut Scope, names: Names)
+pub(crate) fn bind_all(scope: &mut Scope, names: Names)
     requires few { names.count ≤ 4 }
     requires room { scope.old.count + names.count ≤ 32 }
     ensures bound { scoped scope.new ≡ all_bound names (scoped scope.old) }

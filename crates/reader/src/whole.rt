@@ -185,9 +185,26 @@ fn read_into(
 }
 
 /// Reads a listing into the lent tables; `level` is the number of the open level. Notes in `places`
-/// the first byte of each process row. A refusal leaves the tables zero. `scope` is room for the
-/// names in scope: what it holds is not looked at, and its count is put back.
+/// the first byte of each process row. A refusal leaves the tables zero.
 pub fn read(
+    text: &[u8],
+    level: u16,
+    types: &mut [TypeRow],
+    processes: &mut [ProcessRow],
+    terms: &mut [TermRow],
+    places: &mut [u16],
+) -> Result<Counts, ListingFault>
+    ensures answer { ReadAs text.now level (sizes_of types.old processes.old terms.old places.old) result types.new processes.new terms.new places.new }
+    ensures sound { IfOk result (λ k. Sound text.now (sizes_of types.old processes.old terms.old places.old) k places.new) }
+    ensures never_20_or_23 { IfOk result (λ k. Never20Or23 (rows_in_use k types.new processes.new terms.new)) }
+{
+    let mut scope = Scope::new();
+    read_with_scope(text, level, types, processes, terms, places, &mut scope)
+}
+
+/// As `read`, with the room for the names in scope lent as well: what it holds is not looked at, and
+/// its count is put back.
+pub fn read_with_scope(
     text: &[u8],
     level: u16,
     types: &mut [TypeRow],

@@ -2,7 +2,7 @@ use Rattle.std.proofs.Common.{◌≡◌, length, replicate, refl, ap, ◌∙◌,
 use Rattle.reader.specs.Whole.{zero_type, zero_process, zero_term, sizes_of}
 use Rattle.reader.proofs.Told.{too_long, fits}
 use Rattle.reader.proofs.Sounds.{listing_holds}
-use Rattle.reader.proofs.whole.read.Goals as goal
+use Rattle.reader.proofs.whole.read_with_scope.Goals as goal
 
 pub returns-then-text-gt-LONGEST : goal.returns-then-text-gt-LONGEST
 returns-then-text-gt-LONGEST c =
