@@ -2,7 +2,6 @@
 use Rattle.std.specs.Prelude.{ℕ, Ok, Err, Result}
 use Rattle.shape.specs.declared.fault.ShapeFault.{ShapeFault}
 use Rattle.shape.specs.declared.fault.ShapeFault.TheVariants.{Size, Types, Processes, Terms, Depth}
-use Rattle.shape.specs.Fault.{shape_number, shape_row}
 use Rattle.scanning.specs.Faults.{listing_number, listing_place}
 use Rattle.checking.specs.declared.refusal.Refusal.{Refusal}
 use Rattle.checking.specs.declared.refusal.Refusal.TheVariants.{Shape, Typing}

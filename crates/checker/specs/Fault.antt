@@ -1,6 +1,5 @@
 -- What a fault names: its layer, its number, its row and its place.
 use Rattle.std.specs.Prelude.{ℕ}
-use Rattle.words.specs.declared.token.WordFault.{WordFault}
 use Rattle.scanning.specs.declared.fault.ListingFault.{ListingFault}
 use Rattle.scanning.specs.declared.fault.ListingFault.TheVariants.{TooLong, Word, Grammar, Name, Limit}
 use Rattle.scanning.specs.Faults.{listing_number, listing_place}

@@ -1,5 +1,5 @@
 -- The stack of the walk, the last entry first.
-use Rattle.std.proofs.Common.{◌≡◌, ℕ, zero, suc, ◌+◌, ◌-◌, ◌<◌, ◌≤◌, Bool, true, false, ◌≢◌, List, [], ◌∷◌, length, get_or, set, sym, refl, ap, ◌∙◌, ap₂, le_refl, add-one, arith, get_or-set_other, get_or-set_same}
+use Rattle.std.proofs.Common.{◌≡◌, ℕ, zero, suc, ◌+◌, ◌-◌, ◌<◌, ◌≤◌, Bool, true, false, ◌≢◌, List, [], ◌∷◌, length, get_or, set, refl, ap, ◌∙◌, ap₂, le_refl, add-one, arith, get_or-set_other, get_or-set_same}
 use Rattle.rows.specs.declared.process.ProcessRow.{ProcessRow}
 use Rattle.rows.specs.Processes.{end_of}
 use Rattle.checking.specs.Stack.{limit_at}

@@ -1,5 +1,5 @@
 -- How the place of the walk, its types and its stack stand for what is left to check.
-use Rattle.std.proofs.Common.{◌≡◌, ℕ, zero, suc, ◌+◌, ◌-◌, ◌<◌, ◌≤◌, Bool, true, false, List, [], ◌∷◌, ◌++◌, length, take, replicate, Ok, Err, Result, sym, refl, ap, ◌∙◌, subst, le_trans, le_refl, arith}
+use Rattle.std.proofs.Common.{◌≡◌, ℕ, zero, suc, ◌+◌, ◌<◌, ◌≤◌, Bool, true, false, List, [], ◌∷◌, ◌++◌, length, take, replicate, Ok, Err, Result, sym, refl, ap, ◌∙◌, subst, le_trans, le_refl, arith}
 use Rattle.std.proofs.lemmas.List.{take-replicate}
 use Rattle.levels.specs.Meaning.{Meaning}
 use Rattle.rows.specs.declared.types.TypeKind.TheVariants.{Chan, Sym, Dec}
@@ -11,7 +11,7 @@ use Rattle.rows.specs.Processes.{row, end_of, slots_of, adds, adds_by, run_of}
 use Rattle.rows.specs.Tables.{Tables}
 use Rattle.shape.specs.First.{Passes, first_of}
 use Rattle.shape.specs.Depth.{enclosing}
-use Rattle.shape.proofs.Shaped.{opens, Below, One, Two, Family, Shaped}
+use Rattle.shape.proofs.Shaped.{opens, One, Two, Family, Shaped}
 use Rattle.typing.specs.declared.misuse.Misuse.{Misuse}
 use Rattle.typing.specs.declared.usage.Usage.{Usage}
 use Rattle.typing.specs.declared.usage.Usage.TheVariants.{Declared, Open, Misused}

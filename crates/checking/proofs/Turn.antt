@@ -1,10 +1,9 @@
 -- What a turn of the walk keeps, and that each turn keeps it.
-use Rattle.std.proofs.Common.{◌≡◌, ℕ, zero, suc, ◌+◌, ◌-◌, ◌<◌, ◌≤◌, Bool, true, false, List, [], ◌∷◌, length, get_or, take, drop, set, replicate, Ok, Err, sym, refl, ap, ◌∙◌, subst, ap₂, arith, length-drop, length-set, length-take}
+use Rattle.std.proofs.Common.{◌≡◌, ℕ, ◌+◌, ◌-◌, ◌<◌, ◌≤◌, Bool, true, false, List, ◌∷◌, length, get_or, take, drop, set, replicate, Ok, Err, sym, refl, ap, ◌∙◌, subst, ap₂, arith, length-drop, length-set, length-take}
 use Rattle.std.proofs.lemmas.List.{take_all}
 use Rattle.levels.specs.Meaning.{Meaning}
 use Rattle.rows.specs.declared.process.ProcessRow.{ProcessRow}
-use Rattle.rows.specs.declared.term.TermRow.{TermRow}
-use Rattle.rows.specs.Processes.{row, end_of, slots_of, adds, run_of}
+use Rattle.rows.specs.Processes.{row, end_of, slots_of, run_of}
 use Rattle.rows.specs.Tables.{Tables}
 use Rattle.shape.specs.First.{Passes}
 use Rattle.shape.proofs.Shaped.{Shaped}
@@ -16,7 +15,7 @@ use Rattle.checking.specs.declared.refusal.Refusal.{Refusal}
 use Rattle.checking.specs.declared.refusal.Refusal.TheVariants.{Typing}
 use Rattle.checking.specs.Stack.{limit_at}
 use Rattle.checking.specs.Verdict.{rules}
-use Rattle.checking.proofs.Entries.{Entry, due, last, entry, held, limit, limit_is, length_held, held_push, held_top, held_again}
+use Rattle.checking.proofs.Entries.{Entry, last, entry, held, limit, limit_is, length_held, held_push, held_top, held_again}
 use Rattle.checking.proofs.Pending.{At, Entered, within, held_inside, start, finish, step_inside, step_done, step_binds, step_splits, step_once, step_twice, step_room, step_refuses, step_again, step_back}
 use Rattle.checking.proofs.Weight.{weight, weight_falls, weight_pushes, weight_again, weight_back}
 

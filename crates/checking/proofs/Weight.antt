@@ -1,5 +1,5 @@
 -- A number that falls with each turn of the walk: the digits of where it stands, the outermost aopen first.
-use Rattle.std.proofs.Common.{◌≡◌, ℕ, zero, suc, ◌+◌, ◌-◌, ◌*◌, ◌^◌, ◌<◌, ◌≤◌, Bool, true, false, List, [], ◌∷◌, length, sym, refl, ap, ◌∙◌, mul-le-mul_right, mul_comm, add-mul, mul-lt-mul_of_pos_right, pow-suc, arith}
+use Rattle.std.proofs.Common.{◌≡◌, ℕ, suc, ◌+◌, ◌-◌, ◌*◌, ◌^◌, ◌<◌, ◌≤◌, Bool, true, false, List, [], ◌∷◌, length, ap, ◌∙◌, mul-le-mul_right, mul_comm, add-mul, mul-lt-mul_of_pos_right, pow-suc, arith}
 use native.Mathlib.Nat.{one-le-pow}
 use Rattle.checking.proofs.Entries.{Entry, due, last, entry}
 

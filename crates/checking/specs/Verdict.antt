@@ -1,5 +1,5 @@
 -- The verdict on a listing: its shape first, and then the first refusal of the typing rules in reading order.
-use Rattle.std.specs.Prelude.{ℕ, zero, suc, ◌+◌, Bool, true, false, List, length, replicate, Ok, Err, Result}
+use Rattle.std.specs.Prelude.{ℕ, zero, suc, ◌+◌, true, false, List, length, replicate, Ok, Err}
 use Rattle.levels.specs.Meaning.{Meaning}
 use Rattle.rows.specs.declared.process.ProcessRow.{ProcessRow}
 use Rattle.rows.specs.Processes.{row, end_of, slots_of}

@@ -1,8 +1,8 @@
 -- What the masks and shifts of the code come to.
-use Rattle.std.proofs.Common.{◌≡◌, ℕ, zero, suc, ◌+◌, ◌-◌, ◌*◌, ◌/◌, ◌%◌, ◌^◌, ◌<◌, ◌≤◌, Bool, true, false, eqb, ltb, sym, refl, ap, ◌∙◌, ap₂, ⊎_elim, suc-mul, arith, pow_mono}
+use Rattle.std.proofs.Common.{◌≡◌, ℕ, zero, suc, ◌+◌, ◌-◌, ◌*◌, ◌/◌, ◌%◌, ◌^◌, ◌<◌, ◌≤◌, true, eqb, ltb, sym, ◌∙◌, ⊎_elim, suc-mul, arith}
 use native.Mathlib.Nat.{div-eq_of_lt}
-use lib.Bits.{bit_and, bit_or, or_shifted, and_mask, and_le_l}
-use Rattle.std.proofs.lemmas.Nat.{pow_pos, pow-add, pow_below, shr-shr, one_shl, shl_whole, le-div, or_lt, mul-le, mod_below}
+use lib.Bits.{bit_and, bit_or, or_shifted}
+use Rattle.std.proofs.lemmas.Nat.{pow_pos, pow-add, shr-shr, shl_whole, le-div, or_lt}
 use Rattle.levels.specs.Party.{party_level, readers, writers, joint, party_meet, party_open}
 use Rattle.levels.specs.PartyLaws.{joint_low, readers_lt}
 use Rattle.levels.specs.Gated.{meet_is}

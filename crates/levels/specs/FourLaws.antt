@@ -1,5 +1,5 @@
 -- The four levels keep the laws.
-use Rattle.std.specs.Prelude.{◌≡◌, bit_and, refl}
+use Rattle.std.specs.Prelude.{bit_and, refl}
 use Rattle.std.proofs.Common.{arith}
 use Rattle.std.proofs.lemmas.Nat.{and_le_l}
 use Rattle.std.proofs.lemmas.Bool.{lt-ltb, ltb-true}

@@ -1,6 +1,6 @@
 -- Sets of parties keep the laws, for every number of parties.
-use Rattle.std.specs.Prelude.{◌≡◌, ℕ, ◌+◌, ◌-◌, ◌*◌, ◌/◌, ◌%◌, ◌^◌, ◌<◌, ◌≤◌, Bool, true, ◌&&◌, bit_and, bit_or, refl}
-use Rattle.std.proofs.Common.{sym, ap, ap₂, ◌∙◌, arith, pow-add, pow_mono}
+use Rattle.std.specs.Prelude.{◌≡◌, ℕ, ◌+◌, ◌*◌, ◌^◌, ◌<◌, ◌≤◌, true, bit_and, bit_or}
+use Rattle.std.proofs.Common.{sym, ap₂, ◌∙◌, arith, pow-add, pow_mono}
 use Rattle.std.proofs.lemmas.Nat.{pow_pos, or_lt, shr_split, div-mul-add, mod-mul-add, mod_below, shr_below, mul-add-lt, and_le_l}
 use Rattle.std.proofs.lemmas.Bool.{lt-ltb, ltb-true, and_parts, and_from}
 use Rattle.levels.specs.Masks.{within}

@@ -1,5 +1,5 @@
 -- A loop that fills a table with one value.
-use Rattle.std.proofs.Common.{◌≡◌, ℕ, ◌+◌, ◌<◌, ◌≤◌, List, [], ◌∷◌, ◌++◌, length, take, set, replicate, sym, ap, ◌∙◌, arith}
+use Rattle.std.proofs.Common.{◌≡◌, ℕ, ◌+◌, ◌<◌, List, [], ◌∷◌, ◌++◌, length, take, set, replicate, sym, ap, ◌∙◌, arith}
 use Rattle.std.proofs.lemmas.List.{take_more_set, replicate_more, take_all}
 
 pub fill_more : {X : Type 0} (xs : List X) (i : ℕ) (y : X) → i < length xs → take i xs ≡ replicate i y → take (i + 1) (set xs i y) ≡ replicate (i + 1) y

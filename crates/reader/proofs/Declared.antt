@@ -1,10 +1,10 @@
 -- One turn of the declarations.
-use Rattle.std.proofs.Common.{◌≡◌, ℕ, zero, suc, ◌-◌, ◌<◌, List, ◌∷◌, Some, None, Ok, Err, codes, Option, Result, sym, refl, ap, ◌∙◌, subst, arith}
+use Rattle.std.proofs.Common.{◌≡◌, ℕ, zero, suc, ◌-◌, ◌<◌, List, ◌∷◌, Some, None, Ok, Err, codes, Option, Result, refl, ap, ◌∙◌, arith}
 use Rattle.words.specs.declared.token.Span.{Span}
 use Rattle.scanning.specs.declared.fault.ListingFault.{ListingFault}
 use Rattle.scanning.specs.declared.fault.ListingFault.TheVariants.{Limit}
 use Rattle.scanning.specs.declared.type_words.TypeWord.{TypeWord}
-use Rattle.reader.specs.Cursor.{Cursor, Reads, ◌>>=◌, done, fail}
+use Rattle.reader.specs.Cursor.{Cursor, Reads, ◌>>=◌, fail}
 use Rattle.reader.specs.Tokens.{ahead}
 use Rattle.reader.specs.Types.{declaration, declarations, declarations_step, declared_by, one_declaration}
 use Rattle.reader.proofs.Steps.{then_ok, then_err}

@@ -1,5 +1,5 @@
 -- One step of a process, and the ways through it.
-use Rattle.std.proofs.Common.{◌≡◌, ℕ, zero, suc, ◌-◌, ◌<◌, ◌≤◌, List, Ok, Err, Result, sym, refl, ap, ◌∙◌, subst, arith}
+use Rattle.std.proofs.Common.{◌≡◌, ℕ, zero, suc, ◌-◌, ◌<◌, ◌≤◌, List, Ok, Err, sym, refl, ap, ◌∙◌, arith}
 use Rattle.words.specs.declared.token.Span.{Span}
 use Rattle.scanning.specs.declared.fault.ListingFault.{ListingFault}
 use Rattle.scanning.specs.declared.vocabulary.First.{First}
@@ -9,7 +9,7 @@ use Rattle.scanning.specs.Vocabulary.{first}
 use Rattle.scanning.specs.Names.{InScope, scoped, newest, no_span}
 use Rattle.reader.specs.declared.heads.Prefix.{Prefix}
 use Rattle.reader.specs.declared.processes.Fork.{Fork}
-use Rattle.reader.specs.Cursor.{Cursor, Reads, Gives, ◌>>=◌}
+use Rattle.reader.specs.Cursor.{Cursor, Reads, ◌>>=◌}
 use Rattle.reader.specs.Tokens.{token}
 use Rattle.reader.specs.Names.{all_bound, Older}
 use Rattle.reader.specs.Rows.{close_row, finish}

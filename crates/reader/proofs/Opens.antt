@@ -24,7 +24,7 @@ use Rattle.reader.specs.declared.heads.Prefix.{Prefix}
 use Rattle.reader.specs.declared.processes.Fork.{Fork}
 use Rattle.reader.specs.declared.processes.Fork.TheVariants.{Bracket, Branch}
 use Rattle.reader.specs.Cursor.{Cursor, Reads, ◌>>=◌, done, fail, doing, moved, one_more_row}
-use Rattle.reader.specs.Tokens.{next, token, mark}
+use Rattle.reader.specs.Tokens.{next, mark}
 use Rattle.reader.specs.Terms.{term}
 use Rattle.reader.specs.Names.{no_names, also, all_bound}
 use Rattle.reader.specs.Rows.{operands, opened, noted, open_row, with_contents, fill_row, ended, close_row, finish}

@@ -1,5 +1,5 @@
 -- One turn of a list of items.
-use Rattle.std.proofs.Common.{◌≡◌, ℕ, zero, suc, ◌-◌, ◌<◌, Bool, true, false, cond, List, Ok, Err, Result, sym, refl, ap, ◌∙◌, subst, arith}
+use Rattle.std.proofs.Common.{◌≡◌, ℕ, suc, ◌-◌, ◌<◌, Bool, true, false, cond, List, Ok, Err, Result, ap, ◌∙◌, arith}
 use Rattle.words.specs.declared.token.Mark.{Mark}
 use Rattle.scanning.specs.declared.fault.ListingFault.{ListingFault}
 use Rattle.reader.specs.Cursor.{Cursor, Reads, ◌>>=◌, done}

@@ -8,7 +8,7 @@ use Rattle.scanning.specs.declared.fault.ListingFault.{ListingFault}
 use Rattle.scanning.specs.declared.fault.ListingFault.TheVariants.{TooLong}
 use Rattle.reader.specs.declared.whole.Counts.{Counts}
 use Rattle.reader.specs.Cursor.{Cursor, Gives}
-use Rattle.reader.specs.Whole.{Tables, Sizes, tables, Told, listing, whole, started, zero_type, zero_process, zero_term}
+use Rattle.reader.specs.Whole.{Sizes, tables, Told, listing, whole, started, zero_type, zero_process, zero_term}
 
 pub told : (m : Result (Counts × Cursor) ListingFault) (r : Result Counts ListingFault) (s : Cursor) (ts : List TypeRow) (ps : List ProcessRow) (us : List TermRow) (ns : List ℕ) → Gives m r s → s.types ≡ ts → s.rows ≡ ps → s.terms ≡ us → s.places ≡ ns → Told (tables m) r ts ps us ns
 told m (Ok n) s ts ps us ns h a b d e = ap tables h ∙ (λ i. Ok (record { counts = n; types = a i; processes = b i; terms = d i; places = e i }))

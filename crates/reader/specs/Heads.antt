@@ -1,13 +1,12 @@
 -- How processes begin: each up to where the next process stands.
-use Rattle.std.specs.Prelude.{ℕ, ◌+◌, ◌<◌, ◌≤◌, Bool, true, false, cond, List, [], ◌∷◌, codes, ◌==◌, slice_index}
-use Rattle.words.specs.declared.token.Mark.TheVariants.{Open, Close, Dot, Colon, Bar, Equals}
+use Rattle.std.specs.Prelude.{ℕ, ◌+◌, ◌<◌, ◌≤◌, cond, List, codes, ◌==◌, slice_index}
+use Rattle.words.specs.declared.token.Mark.TheVariants.{Close, Dot, Colon, Equals}
 use Rattle.words.specs.declared.token.Span.{Span}
 use Rattle.rows.specs.declared.process.ProcessKind.{ProcessKind}
 use Rattle.rows.specs.declared.process.ProcessKind.TheVariants.{Out, In, New, Both, Again, If}
 use Rattle.scanning.specs.declared.fault.ListingFault.TheVariants.{Limit}
 use Rattle.scanning.specs.declared.type_words.TypeWord.{TypeWord}
 use Rattle.scanning.specs.Names.{InScope}
-use Rattle.reader.specs.declared.tables.Parts.{Parts}
 use Rattle.reader.specs.declared.names.Names.{Names}
 use Rattle.reader.specs.declared.heads.Prefix.{Prefix}
 use Rattle.reader.specs.declared.heads.Message.{Message}

@@ -1,5 +1,5 @@
 -- Lists of items with commas between them.
-use Rattle.std.specs.Prelude.{ℕ, zero, suc, ◌+◌, Bool, true, false, cond, List, [], ◌∷◌, slice_set}
+use Rattle.std.specs.Prelude.{ℕ, zero, suc, ◌+◌, cond, List, [], ◌∷◌, slice_set}
 use Rattle.words.specs.declared.token.Mark.{Mark}
 use Rattle.reader.specs.declared.tables.Parts.{Parts}
 use Rattle.reader.specs.Cursor.{Reads, ◌>>=◌, done}

@@ -1,5 +1,5 @@
 -- The words that are bound as names.
-use Rattle.std.specs.Prelude.{◌≡◌, ℕ, ◌+◌, ◌≤◌, Bool, true, false, cond, List, [], ◌∷◌, ◌++◌, length, is_some, Some, None, codes, Option, nat_lt, slice_set}
+use Rattle.std.specs.Prelude.{◌≡◌, ℕ, ◌+◌, ◌≤◌, cond, List, [], ◌∷◌, ◌++◌, is_some, Some, None, codes, Option, nat_lt, slice_set}
 use Rattle.words.specs.declared.token.Mark.TheVariants.{Open, Close, Semicolon}
 use Rattle.words.specs.declared.token.Span.{Span}
 use Rattle.scanning.specs.declared.fault.ListingFault.TheVariants.{Grammar, Limit}

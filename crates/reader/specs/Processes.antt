@@ -1,7 +1,6 @@
 -- Processes. Their rows stand in the order of the text.
 use Rattle.std.specs.Prelude.{◌≡◌, ℕ, zero, suc, ◌-◌, List, codes}
 use Rattle.words.specs.declared.token.Mark.TheVariants.{Close, Bar}
-use Rattle.words.specs.declared.token.Span.{Span}
 use Rattle.rows.specs.declared.process.ProcessKind.TheVariants.{Stop as StopKind}
 use Rattle.scanning.specs.declared.fault.ListingFault.TheVariants.{Grammar, Limit}
 use Rattle.scanning.specs.declared.vocabulary.First.{First}

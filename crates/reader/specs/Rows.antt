@@ -1,10 +1,9 @@
 -- Process rows: opened where their text begins, filled with what their first line says, and closed where their last child ends.
-use Rattle.std.specs.Prelude.{ℕ, ◌+◌, ◌-◌, min, Bool, true, false, cond, ◌&&◌, List, [], ◌∷◌, length, Ok, Err, nat_lt, slice_index_or, slice_set}
+use Rattle.std.specs.Prelude.{ℕ, ◌+◌, ◌-◌, min, cond, ◌&&◌, List, [], ◌∷◌, length, Ok, Err, nat_lt, slice_index_or, slice_set}
 use Rattle.rows.specs.declared.process.ProcessKind.{ProcessKind}
 use Rattle.rows.specs.declared.process.ProcessRow.{ProcessRow}
 use Rattle.rows.specs.Processes.{no_process}
 use Rattle.scanning.specs.declared.fault.ListingFault.TheVariants.{Limit}
-use Rattle.reader.specs.declared.tables.Parts.{Parts}
 use Rattle.reader.specs.Cursor.{Cursor, Reads, with_rows, one_more_row}
 
 abbrev pub operands : ℕ → ℕ → ℕ → ℕ → ℕ → List ℕ

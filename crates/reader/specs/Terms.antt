@@ -1,5 +1,5 @@
 -- Terms. They take rows in the order in which they end.
-use Rattle.std.specs.Prelude.{ℕ, zero, suc, ◌+◌, ◌-◌, Bool, true, false, cond, ◌&&◌, List, [], ◌∷◌, length, is_some, Some, None, Ok, Err, Option, ◌==◌, nat_lt, slice_set}
+use Rattle.std.specs.Prelude.{ℕ, zero, suc, ◌+◌, ◌-◌, cond, ◌&&◌, List, [], ◌∷◌, length, is_some, Some, None, Ok, Err, Option, ◌==◌, nat_lt, slice_set}
 use Rattle.words.specs.declared.token.Mark.{Mark}
 use Rattle.words.specs.declared.token.Mark.TheVariants.{Open, Close, Semicolon}
 use Rattle.words.specs.declared.token.Span.{Span}
@@ -13,8 +13,8 @@ use Rattle.scanning.specs.Spelling.{bytes_of}
 use Rattle.scanning.specs.Vocabulary.{head}
 use Rattle.scanning.specs.Names.{slot_of}
 use Rattle.reader.specs.declared.tables.Parts.{Parts}
-use Rattle.reader.specs.Cursor.{Cursor, Reads, ◌>>=◌, done, fail, with_terms}
-use Rattle.reader.specs.Tokens.{token, word, mark}
+use Rattle.reader.specs.Cursor.{Reads, ◌>>=◌, done, fail, with_terms}
+use Rattle.reader.specs.Tokens.{word, mark}
 use Rattle.reader.specs.Lists.{series, none, added}
 
 -- an opening bracket, where `allow` more may be opened: how many may be opened inside it

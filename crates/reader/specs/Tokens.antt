@@ -7,13 +7,12 @@ use Rattle.words.specs.declared.token.Token.TheVariants.{End, Word, Number, Sing
 use Rattle.words.specs.declared.token.Span.{Span}
 use Rattle.words.specs.declared.token.WordFault.{WordFault}
 use Rattle.words.specs.Scan.{scan, outside}
-use Rattle.scanning.specs.declared.fault.ListingFault.{ListingFault}
 use Rattle.scanning.specs.declared.fault.ListingFault.TheVariants.{Word as FromWord, Grammar}
 use Rattle.scanning.specs.declared.vocabulary.Head.{Head}
 use Rattle.scanning.specs.declared.vocabulary.Head.TheVariants.{Name, KeyOf, Under, Reserved}
 use Rattle.scanning.specs.Spelling.{is_mark, is_word, is_end, bytes_of, spells}
 use Rattle.scanning.specs.Vocabulary.{head}
-use Rattle.reader.specs.Cursor.{Cursor, Reads, ◌>>=◌, done, fail, moved}
+use Rattle.reader.specs.Cursor.{Reads, ◌>>=◌, done, fail, moved}
 
 -- the token at a place
 abbrev pub next : List ℕ → ℕ → Result Span WordFault

@@ -1,5 +1,5 @@
 -- Types. Equal types share a row.
-use Rattle.std.specs.Prelude.{ℕ, zero, suc, ◌+◌, Bool, true, false, cond, ◌&&◌, List, [], ◌∷◌, length, is_some, Some, None, Ok, Err, codes, Option, nat_lt, slice_set}
+use Rattle.std.specs.Prelude.{ℕ, zero, suc, ◌+◌, cond, ◌&&◌, List, ◌∷◌, length, is_some, Some, None, Ok, Err, codes, Option, nat_lt, slice_set}
 use Rattle.words.specs.declared.token.Mark.TheVariants.{Open, Close, Semicolon, Equals}
 use Rattle.words.specs.declared.token.Span.{Span}
 use Rattle.rows.specs.declared.types.TypeKind.{TypeKind}
@@ -12,7 +12,7 @@ use Rattle.scanning.specs.Spelling.{bytes_of, spells}
 use Rattle.scanning.specs.Vocabulary.{head, type_kind}
 use Rattle.scanning.specs.Names.{row_of}
 use Rattle.reader.specs.declared.tables.Parts.{Parts}
-use Rattle.reader.specs.Cursor.{Cursor, Reads, ◌>>=◌, done, fail, with_types}
+use Rattle.reader.specs.Cursor.{Reads, ◌>>=◌, done, fail, with_types}
 use Rattle.reader.specs.Tokens.{word, mark, number, binder, is_name, ahead}
 use Rattle.reader.specs.Lists.{series, none, added}
 

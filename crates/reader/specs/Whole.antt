@@ -1,5 +1,5 @@
 -- A whole listing.
-use Rattle.std.specs.Prelude.{◌≡◌, ℕ, Bool, true, false, cond, List, [], ◌∷◌, length, replicate, Ok, Err, Result, nat_lt}
+use Rattle.std.specs.Prelude.{◌≡◌, ℕ, cond, List, [], length, replicate, Ok, Err, Result, nat_lt}
 use Rattle.rows.specs.declared.types.TypeRow.{TypeRow}
 use Rattle.rows.specs.declared.process.ProcessKind.TheVariants.{Stop}
 use Rattle.rows.specs.declared.process.ProcessRow.{ProcessRow}
@@ -8,9 +8,8 @@ use Rattle.rows.specs.Types.{plain}
 use Rattle.scanning.specs.declared.fault.ListingFault.{ListingFault}
 use Rattle.scanning.specs.declared.fault.ListingFault.TheVariants.{TooLong}
 use Rattle.scanning.specs.declared.type_words.TypeWord.{TypeWord}
-use Rattle.scanning.specs.Names.{InScope}
 use Rattle.reader.specs.declared.whole.Counts.{Counts}
-use Rattle.reader.specs.Cursor.{Cursor, Reads, ◌>>=◌, done}
+use Rattle.reader.specs.Cursor.{Cursor, Reads, ◌>>=◌}
 use Rattle.reader.specs.Tokens.{ending}
 use Rattle.reader.specs.Terms.{slot_row}
 use Rattle.reader.specs.Types.{share, declarations}

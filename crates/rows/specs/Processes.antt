@@ -1,5 +1,5 @@
 -- Processes, as rows in the order of the text.
-use Rattle.std.specs.Prelude.{ℕ, ◌+◌, List, [], take, drop, slice_index, slice_index_or}
+use Rattle.std.specs.Prelude.{ℕ, List, [], take, drop, slice_index, slice_index_or}
 use Rattle.rows.specs.declared.process.ProcessKind.{ProcessKind}
 use Rattle.rows.specs.declared.process.ProcessKind.TheVariants.{Stop, Out, In, New, Both, Again, If, Sopen, Aopen, Verify}
 use Rattle.rows.specs.declared.process.ProcessRow.{ProcessRow}

@@ -1,5 +1,5 @@
 -- The shape of term rows.
-use Rattle.std.specs.Prelude.{ℕ, ◌+◌, Bool, true, false, cond, ◌&&◌, List, [], ◌∷◌, Ok, Err, ◌==◌, nat_lt}
+use Rattle.std.specs.Prelude.{ℕ, ◌+◌, Bool, cond, ◌&&◌, List, [], ◌∷◌, Ok, Err, ◌==◌, nat_lt}
 use Rattle.rows.specs.declared.term.TermKind.{TermKind}
 use Rattle.rows.specs.declared.term.TermKind.TheVariants.{Slot, Ek, Vk, Senc, Aenc, Sign}
 use Rattle.rows.specs.declared.term.TermRow.{TermRow}

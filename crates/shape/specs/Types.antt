@@ -1,5 +1,5 @@
 -- The shape of type rows.
-use Rattle.std.specs.Prelude.{ℕ, zero, suc, Bool, true, false, cond, not, ◌&&◌, ◌||◌, List, length, ◌==◌}
+use Rattle.std.specs.Prelude.{ℕ, zero, suc, Bool, false, cond, not, ◌&&◌, ◌||◌, List, length, ◌==◌}
 use Rattle.levels.specs.Meaning.{Meaning, public, tainted, guarded}
 use Rattle.rows.specs.declared.types.TypeKind.{TypeKind}
 use Rattle.rows.specs.declared.types.TypeKind.TheVariants.{Level, Chan, Sym, Dec, Enc, Sig, Ver}

@@ -1,5 +1,5 @@
 -- The shape of a listing's tables, by number, lowest row first.
-use Rattle.std.specs.Prelude.{ℕ, Bool, cond, ◌&&◌, length, Ok, Err, nat_le, nat_lt}
+use Rattle.std.specs.Prelude.{Bool, cond, ◌&&◌, length, Ok, Err, nat_le, nat_lt}
 use Rattle.levels.specs.Meaning.{Meaning}
 use Rattle.rows.specs.Tables.{Tables}
 use Rattle.shape.specs.declared.fault.ShapeFault.{ShapeFault}

@@ -1,5 +1,5 @@
 -- What the rules ask after a row, by what the row comes to.
-use Rattle.std.proofs.Common.{◌≡◌, ℕ, ◌+◌, true, false, List}
+use Rattle.std.proofs.Common.{ℕ, ◌+◌, true, false, List}
 use Rattle.levels.specs.Meaning.{Meaning}
 use Rattle.rows.specs.Processes.{row, end_of}
 use Rattle.rows.specs.Tables.{Tables}

@@ -1,5 +1,5 @@
 -- What a process row comes to.
-use Rattle.std.specs.Prelude.{ℕ, Bool, true, false, List, [], ◌∷◌, ◌++◌, map, take, drop, Ok, Err, Result}
+use Rattle.std.specs.Prelude.{ℕ, true, false, List, [], ◌∷◌, ◌++◌, map, take, drop, Ok, Err, Result}
 use Rattle.levels.specs.Meaning.{Meaning}
 use Rattle.rows.specs.declared.types.TypeKind.TheVariants.{Chan, Sym, Dec}
 use Rattle.rows.specs.declared.types.TypeRow.{TypeRow}

@@ -1,5 +1,5 @@
 -- The types of terms, each from those of the earlier terms of its run.
-use Rattle.std.specs.Prelude.{ℕ, Bool, true, false, cond, List, [], ◌∷◌, ◌++◌, map, length, take, drop, Ok, Err, Result}
+use Rattle.std.specs.Prelude.{ℕ, cond, List, [], ◌∷◌, ◌++◌, map, length, take, drop, Ok, Err, Result}
 use Rattle.levels.specs.Meaning.{Meaning}
 use Rattle.rows.specs.declared.types.TypeKind.{TypeKind}
 use Rattle.rows.specs.declared.types.TypeKind.TheVariants.{Sym, Dec, Enc, Sig, Ver}

@@ -1,4 +1,4 @@
-use Rattle.std.proofs.Common.{◌≡◌, ◌+◌, ◌-◌, ◌<◌, ◌≤◌, true, false, length, get_or, take, sym, refl, ap, ◌∙◌, arith, rules}
+use Rattle.std.proofs.Common.{◌-◌, ◌<◌, get_or, arith, rules}
 use Rattle.levels.specs.Means.{means}
 use Rattle.rows.specs.Tables.{tables}
 use Rattle.shape.proofs.Passed.{passed}

@@ -1,5 +1,5 @@
 use Rattle.std.proofs.Common.{◌+◌, ◌<◌, length, refl, arith}
-use Rattle.scanning.specs.Names.{InScope, no_span}
+use Rattle.scanning.specs.Names.{no_span}
 use Rattle.scanning.proofs.Newest.{newest_set, newest_more}
 use Rattle.reader.proofs.names.bind.Goals as goal
 

@@ -1,7 +1,7 @@
-use Rattle.std.proofs.Common.{◌≡◌, get_or, Some, None, Ok, Err, sym, ap, ◌∙◌, arith, rules, MatchOption}
+use Rattle.std.proofs.Common.{◌≡◌, get_or, Some, None, Ok, sym, ◌∙◌, arith, rules}
 use Rattle.std.proofs.lemmas.Result.{err_from_is_err_and}
 use Rattle.std.proofs.lemmas.Option.{MatchOption-at_some}
-use Rattle.words.specs.Scan.{step, scan}
+use Rattle.words.specs.Scan.{step}
 use Rattle.words.proofs.Onward.{refused, found, goes_on, stops}
 use Rattle.words.proofs.word_reader.next_token.Goals as goal
 

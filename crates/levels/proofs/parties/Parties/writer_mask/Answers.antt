@@ -1,4 +1,4 @@
-use Rattle.std.proofs.Common.{sym, ap, ◌∙◌}
+use Rattle.std.proofs.Common.{ap, ◌∙◌}
 use lib.Bits.{bit_and, and_mask}
 use Rattle.levels.proofs.parties.Parties.writer_mask.Goals as goal
 

@@ -1,4 +1,4 @@
-use Rattle.std.proofs.Common.{◌/◌, ◌^◌, eqb, sym, ap, ◌∙◌}
+use Rattle.std.proofs.Common.{◌/◌, ◌^◌, eqb, ap, ◌∙◌}
 use Rattle.levels.proofs.PartyCode.{in_range}
 use Rattle.levels.proofs.party_scheme.PartiesScheme.is_level.Goals as goal
 

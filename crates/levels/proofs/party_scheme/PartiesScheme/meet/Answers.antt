@@ -1,4 +1,4 @@
-use Rattle.std.proofs.Common.{sym, ◌∙◌}
+use Rattle.std.proofs.Common.{sym}
 use Rattle.levels.proofs.PartyCode.{meet_code}
 use Rattle.levels.proofs.party_scheme.PartiesScheme.meet.Goals as goal
 

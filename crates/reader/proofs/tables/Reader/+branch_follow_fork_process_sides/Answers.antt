@@ -1,13 +1,10 @@
-use Rattle.std.proofs.Common.{◌≡◌, ◌+◌, ◌-◌, ◌<◌, ◌≤◌, Ok, Err, sym, refl, ap, ◌∙◌, subst, arith, rules}
-use Rattle.rows.specs.declared.process.ProcessKind.TheVariants.{Stop as StopKind}
-use Rattle.scanning.specs.declared.fault.ListingFault.TheVariants.{Grammar}
+use Rattle.std.proofs.Common.{◌-◌, sym, refl, ap, ◌∙◌, subst, arith, rules}
 use Rattle.scanning.specs.declared.vocabulary.First.TheVariants.{Stop, New, Out, In, Again, Both, If, Opening, Other}
 use Rattle.scanning.specs.Names.{scoped, declared}
 use Rattle.reader.specs.declared.processes.Fork.TheVariants.{Bracket, Branch}
 use Rattle.reader.specs.Cursor.{state, Gives}
-use Rattle.reader.specs.Names.{all_bound}
 use Rattle.reader.specs.Heads.{new_head, out_head, in_head, opening_head, again_head, both_head, if_head}
-use Rattle.reader.specs.Processes.{Kept, follow, forked, sides, process, deeper}
+use Rattle.reader.specs.Processes.{follow, forked, process, deeper}
 use Rattle.reader.proofs.Steps.{then_ok, then_err}
 use Rattle.reader.proofs.Deep.{token_fails, arm, follow_fails, follows, fork_fails, forks, sides_1, sides_2, sides_3, sides_4, older_then, kept_scoped, kept_then}
 use Rattle.reader.proofs.tables.Reader.+branch_follow_fork_process_sides.Goals as goal

@@ -1,5 +1,5 @@
-use Rattle.std.proofs.Common.{◌≡◌, ◌+◌, ◌-◌, ◌<◌, ◌≤◌, true, false, Ok, Err, sym, ap, ◌∙◌, subst, arith, rules}
-use Rattle.scanning.specs.declared.fault.ListingFault.TheVariants.{Grammar, Limit}
+use Rattle.std.proofs.Common.{◌≡◌, ◌+◌, ◌-◌, ◌<◌, true, false, Ok, Err, sym, ap, ◌∙◌, subst, arith, rules}
+use Rattle.scanning.specs.declared.fault.ListingFault.TheVariants.{Grammar}
 use Rattle.scanning.specs.Names.{scoped}
 use Rattle.reader.specs.Cursor.{state, Gives}
 use Rattle.reader.specs.Tokens.{comma}

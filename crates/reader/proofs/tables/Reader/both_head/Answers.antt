@@ -1,9 +1,9 @@
-use Rattle.std.proofs.Common.{◌≡◌, ◌<◌, eqb, sym, ap, subst, arith, rules}
+use Rattle.std.proofs.Common.{◌<◌, eqb, sym, ap, subst, arith, rules}
 use Rattle.std.proofs.lemmas.Bool.{cond-true, cond-false, eq-eqb, ne_eqb}
 use Rattle.std.proofs.lemmas.Result.{IfOk-weaker}
 use Rattle.rows.specs.declared.process.ProcessKind.TheVariants.{Both}
 use Rattle.scanning.specs.declared.fault.ListingFault.TheVariants.{Limit}
-use Rattle.reader.specs.Cursor.{state, Gives, Reads, fail}
+use Rattle.reader.specs.Cursor.{state, Gives, fail}
 use Rattle.reader.specs.Rows.{open_row}
 use Rattle.reader.specs.Heads.{both_head}
 use Rattle.reader.proofs.tables.Reader.both_head.Goals as goal

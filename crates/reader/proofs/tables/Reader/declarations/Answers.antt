@@ -1,4 +1,4 @@
-use Rattle.std.proofs.Common.{◌≡◌, ◌+◌, ◌-◌, ◌<◌, ◌≤◌, ◌∷◌, Some, None, Ok, Err, codes, sym, refl, ap, ◌∙◌, subst, arith, rules}
+use Rattle.std.proofs.Common.{◌≡◌, ◌-◌, ◌<◌, Some, None, Ok, codes, sym, ap, ◌∙◌, arith, rules}
 use Rattle.scanning.specs.Names.{declared}
 use Rattle.reader.specs.Cursor.{state}
 use Rattle.reader.specs.Tokens.{ahead}

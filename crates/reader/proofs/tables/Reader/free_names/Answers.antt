@@ -1,9 +1,8 @@
-use Rattle.std.proofs.Common.{◌≡◌, ◌+◌, ◌-◌, ◌<◌, ◌≤◌, true, false, Ok, Err, sym, refl, ap, ◌∙◌, subst, arith, rules}
+use Rattle.std.proofs.Common.{◌≡◌, ◌-◌, ◌<◌, true, false, Ok, sym, ap, ◌∙◌, subst, arith, rules}
 use Rattle.words.specs.declared.token.Mark.TheVariants.{Semicolon}
 use Rattle.scanning.specs.Names.{scoped}
 use Rattle.reader.specs.Cursor.{state, Leaves}
 use Rattle.reader.specs.Tokens.{comma}
-use Rattle.reader.specs.Lists.{series}
 use Rattle.reader.specs.Names.{bound, free_name, one_too_many, free_names}
 use Rattle.reader.proofs.Series.{one_too_many as no_room, item_fails, comma_fails, list_ends, goes_on}
 use Rattle.reader.proofs.tables.Reader.free_names.Goals as goal

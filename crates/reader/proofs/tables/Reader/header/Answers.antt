@@ -2,7 +2,7 @@ use Rattle.std.proofs.Common.{◌≡◌, Some, None, Ok, codes, sym, ap, ◌∙�
 use Rattle.scanning.specs.Names.{scoped}
 use Rattle.reader.specs.Cursor.{state, Leaves}
 use Rattle.reader.specs.Tokens.{ahead}
-use Rattle.reader.specs.Names.{header, freed, free_names}
+use Rattle.reader.specs.Names.{header, freed}
 use Rattle.reader.proofs.Steps.{then_ok}
 use Rattle.reader.proofs.tables.Reader.header.Goals as goal
 
