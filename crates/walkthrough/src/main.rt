@@ -5,9 +5,9 @@ ghost use Rattle.std.specs.Prelude.{◌≡◌, ◌+◌, ◌-◌, ◌≤◌, take
 ghost use Rattle.rows.specs.Processes.{adds};
 ghost use Rattle.typing.specs.Judging.{extended};
 
-mod words;
+mod wording;
 
-use crate::words::{TypeWords, process_word};
+use crate::wording::{TypeWords, process_word};
 use cases::marked_cases;
 use checking::check;
 use levels::FourLevels;
