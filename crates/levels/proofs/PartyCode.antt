@@ -36,3 +36,8 @@ meet_code n a b few p q =
     packed n (bit_or (readers n a) (readers n b)) (bit_and (writers n a) (writers n b)) few
     (or_lt n (readers n a) (readers n b) (readers_lt n a p) (readers_lt n b q)) (joint_low n a b)
     ∙ sym (meet_is (party_level n) (wider n) (joint n) (party_open n) a b p q)
+
+-- everybody's set beside itself is the open level
+pub open_code : (n x y : ℕ) → n ≤ 8 → x ≡ 2 ^ n - 1 → y ≡ 2 ^ n - 1 → bit_or ((x * 2 ^ n) % 65536) y ≡ party_open n
+open_code n x y few p q =
+    let w = pow_pos n in rw (p, q) (packed n (2 ^ n - 1) (2 ^ n - 1) few (omega arith) (omega arith) ∙ all_packed n)
