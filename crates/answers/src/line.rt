@@ -8,12 +8,5 @@ use std::alloc::{AllocError, Global};
 pub fn line_of(heap: Global, answer: Answer) -> Result<String, AllocError>
     ensures { IfOk result (λ s. string_bytes s ≡ line answer) }
 {
-    match answer {
-        Answer::Accepted(rows) => format!(in heap; "accepted {rows}\n"),
-        Answer::Row(number, row, place) => format!(in heap;
-            "refused {number} row {row} at {place}\n"
-        ),
-        Answer::Types(number, row) => format!(in heap; "refused {number} type {row}\n"),
-        Answer::Text(number, place) => format!(in heap; "refused {number} at {place}\n"),
-    }
+    format!(in heap; "{answer}\n")
 }

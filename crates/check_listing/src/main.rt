@@ -1,41 +1,33 @@
 //! Checks the listing on standard input under the four levels, and prints one line.
 #![tactic(auto)]
 
-ghost use Rattle.std.specs.Prelude.{◌≤◌, length, IfOk};
+ghost use Rattle.std.specs.Prelude.{◌≡◌, ◌≤◌, take, IfOk, IfSome, vec_len};
 
 use answers::line_of;
 use checker::{answer_of, check_text};
 use levels::FourLevels;
+use std::alloc::Global;
 use std::io;
 use std::io::Read;
 
 // One byte more than the longest listing: enough to see that a text is too long.
-const ROOM: usize = 32769;
+const ROOM: u64 = 32769;
 
-// Fills the buffer from the input, as far as it goes. Answers how many bytes came.
-fn fill<R: Read>(input: &mut R, buffer: &mut [u8]) -> io::Result<usize>
-    ensures { IfOk result (λ n. n ≤ length buffer.old) }
+// The input as far as the room goes: where its bytes are known, the first of them.
+fn read_input<R: Read + Drop>(heap: Global, input: R) -> io::Result<Vec<u8>>
+    ensures bound { IfOk result (λ text. vec_len text ≤ 32769) }
+    ensures bytes { IfOk result (λ text. IfSome (R.remaining input) (λ bytes. text.items ≡ take 32769 bytes)) }
 {
-    let mut n = 0;
-    for _ in 0..buffer.len() {
-        if n >= buffer.len() {
-            break;
-        }
-        let more = input.read(&mut buffer[n..])?;
-        if more == 0 {
-            break;
-        }
-        n += more;
-    }
-    Ok(n)
+    let mut text = Vec::new(heap);
+    let _read = input.take(ROOM).read_to_end(&mut text)?;
+    // no more than the room came; of a reader whose bytes are not known, the library doesn't say so
+    text.truncate(ROOM as usize);
+    Ok(text)
 }
 
 fn main(rt: HostRuntime) -> io::Result<()> {
-    let mut buffer = vec![in rt.alloc(); 0u8; ROOM]?;
-    let mut input = rt.stdin();
-    let n = fill(&mut input, buffer.as_mut_slice())?;
-    let text = buffer.as_slice();
-    let verdict = check_text(&FourLevels, &text[0..n]);
+    let text = read_input(rt.alloc(), rt.stdin())?;
+    let verdict = check_text(&FourLevels, text.as_slice());
     let line = line_of(rt.alloc(), answer_of(verdict))?;
     print!(rt; "{line}")
 }

@@ -6,7 +6,7 @@ use checking::Refusal;
 use scanning::ListingFault;
 
 /// The layer that found a fault.
-#[derive(Clone, Copy)]
+#[derive(Clone, Copy, Debug, PartialEq, Eq)]
 pub enum Layer {
     /// the words of the text
     Words,
@@ -19,12 +19,13 @@ pub enum Layer {
 }
 
 /// Why a text is refused.
-#[derive(Clone, Copy)]
+#[derive(Clone, Copy, Debug, PartialEq, Eq)]
 pub enum CheckFault {
     /// it is no listing
     Listing(ListingFault),
     /// the listing is refused; with the place where the text of its row begins, or 0 where the fault
     /// is of no process row
+    // Kept: 0 and no `Option`, by a rule of the project: a fault names plain places.
     Refused(Refusal, usize),
 }
 
@@ -60,6 +61,7 @@ impl CheckFault {
     }
 
     /// The row at fault; 0 where the text is no listing.
+    // Kept: 0 and no `Option`, by a rule of the project: a fault names plain rows.
     pub fn row(self) -> usize
         ensures { result ≡ fault_row self }
     {

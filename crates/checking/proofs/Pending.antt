@@ -1,5 +1,5 @@
 -- How the place of the walk, its types and its stack stand for what is left to check.
-use Rattle.std.proofs.Common.{◌≡◌, ℕ, zero, suc, ◌+◌, ◌<◌, ◌≤◌, Bool, true, false, List, [], ◌∷◌, ◌++◌, length, take, replicate, Ok, Err, Result, sym, refl, ap, ◌∙◌, subst, le_trans, le_refl, arith}
+use Rattle.std.proofs.Common.{◌≡◌, ℕ, zero, suc, ◌+◌, ◌<◌, ◌≤◌, List, [], ◌∷◌, ◌++◌, length, take, replicate, Some, None, Option, Ok, Err, Result, sym, refl, ap, ◌∙◌, subst, le_trans, le_refl, arith}
 use Rattle.std.proofs.lemmas.List.{take-replicate}
 use Rattle.levels.specs.Meaning.{Meaning}
 use Rattle.rows.specs.declared.types.TypeKind.TheVariants.{Chan, Sym, Dec}
@@ -14,12 +14,12 @@ use Rattle.shape.specs.Depth.{enclosing}
 use Rattle.shape.proofs.Shaped.{opens, One, Two, Family, Shaped}
 use Rattle.typing.specs.declared.misuse.Misuse.{Misuse}
 use Rattle.typing.specs.declared.usage.Usage.{Usage}
-use Rattle.typing.specs.declared.usage.Usage.TheVariants.{Declared, Open, Misused}
+use Rattle.typing.specs.declared.usage.Usage.TheVariants.{Declared, Open}
 use Rattle.typing.specs.declared.judging.Judgement.{Judgement}
-use Rattle.typing.specs.declared.judging.Judgement.TheVariants.{Done, Binds, Splits, Opens, Refuses}
-use Rattle.typing.specs.Terms.{types_of_run}
-use Rattle.typing.specs.Usage.{used, verified}
-use Rattle.typing.specs.Judging.{zeros, by_use, judge, judged, reads, extended, operand_type, sent_types}
+use Rattle.typing.specs.declared.judging.Judgement.TheVariants.{Done, Binds, Splits, Opens}
+use Rattle.typing.specs.Terms.{types_of_run, and_then}
+use Rattle.typing.specs.Usage.{used, verified, by_use}
+use Rattle.typing.specs.Judging.{zeros, judge, reads, extended, operand_type, sent_types}
 use Rattle.checking.specs.declared.refusal.Refusal.{Refusal}
 use Rattle.checking.specs.declared.refusal.Refusal.TheVariants.{Typing}
 use Rattle.checking.specs.Verdict.{follow, check_from, free_names, rules}
@@ -113,20 +113,20 @@ module _ {ps : List ProcessRow} where
 
 -- ---- what the family of a row gives for what the row comes to
 
-abbrev pub NextOf : List ProcessRow → ℕ → Judgement → Type 0
-NextOf ps i Done = end_of ps i ≡ i + 1
-NextOf ps i (Binds new) = One ps i
-NextOf ps i Splits = Two ps i × (adds (row ps i) ≡ 0)
-NextOf ps i (Opens new b) = One ps i × ((row ps i).kind ≡ Aopen)
-NextOf ps i (Refuses e) = Unit {0}
+abbrev pub NextOf : List ProcessRow → ℕ → Result Judgement Misuse → Type 0
+NextOf ps i (Ok Done) = end_of ps i ≡ i + 1
+NextOf ps i (Ok (Binds new)) = One ps i
+NextOf ps i (Ok Splits) = Two ps i × (adds (row ps i) ≡ 0)
+NextOf ps i (Ok (Opens o)) = One ps i × ((row ps i).kind ≡ Aopen)
+NextOf ps i (Err e) = Unit {0}
 
-by_both : (P : Judgement → Type 0) (u : Usage) (d o : Judgement) → P d → P o → ((e : Misuse) → P (Refuses e)) → P (by_use u d o)
-by_both P Declared d o p q r = p
-by_both P Open d o p q r = q
-by_both P (Misused e) d o p q r = r e
+by_both : (P : Result Judgement Misuse → Type 0) (u : Result Usage Misuse) (d o : Judgement) → P (Ok d) → P (Ok o) → ((e : Misuse) → P (Err e)) → P (by_use u d o)
+by_both P (Ok Declared) d o p q r = p
+by_both P (Ok Open) d o p q r = q
+by_both P (Err e) d o p q r = r e
 
 -- a row that binds, in either use
-once : {ps : List ProcessRow} {i : ℕ} (u : Usage) (new : List ℕ) → One ps i → NextOf ps i (by_use u (Binds new) (Binds zeros))
+once : {ps : List ProcessRow} {i : ℕ} (u : Result Usage Misuse) (new : List ℕ) → One ps i → NextOf ps i (by_use u (Binds new) (Binds zeros))
 once {ps} {i} u new one = by_both (NextOf ps i) u (Binds new) (Binds zeros) one one (λ e. tt)
 
 next_by : (m : Meaning) (ts us : List TypeRow) (ps : List ProcessRow) (i : ℕ) (κ : ProcessKind) → (row ps i).kind ≡ κ → Family ps i κ → NextOf ps i (judge m ts us (row ps i) κ)
@@ -140,10 +140,10 @@ next_by m ts us ps i If e fam = (fam, ap (λ k. adds_by k (row ps i).count) e)
 next_by m ts us ps i Sopen e fam = once (used m ts (operand_type us (row ps i) 1) Sym (row ps i).count []) (operand_type us (row ps i) 1).payload fam
 next_by m ts us ps i Aopen e fam =
     let both : One ps i × ((row ps i).kind ≡ Aopen) = (fam, e) in
-    by_both (NextOf ps i) (used m ts (operand_type us (row ps i) 1) Dec (row ps i).count []) (Opens (operand_type us (row ps i) 1).payload true) (Opens zeros false) both both (λ e. tt)
+    by_both (NextOf ps i) (used m ts (operand_type us (row ps i) 1) Dec (row ps i).count []) (Opens (Some (operand_type us (row ps i) 1).payload)) (Opens None) both both (λ e. tt)
 next_by m ts us ps i Verify e fam = once (verified m ts (operand_type us (row ps i) 1) (row ps i).count (operand_type us (row ps i) 0)) (operand_type us (row ps i) 1).payload fam
 
-next_judged : (m : Meaning) (ts : List TypeRow) (ps : List ProcessRow) (i : ℕ) (r : Result (List TypeRow) Misuse) → Family ps i (row ps i).kind → NextOf ps i (judged m ts (row ps i) r)
+next_judged : (m : Meaning) (ts : List TypeRow) (ps : List ProcessRow) (i : ℕ) (r : Result (List TypeRow) Misuse) → Family ps i (row ps i).kind → NextOf ps i (and_then r (λ us. judge m ts us (row ps i) (row ps i).kind))
 next_judged m ts ps i (Ok us) fam = next_by m ts us ps i (row ps i).kind refl fam
 next_judged m ts ps i (Err e) fam = tt
 
@@ -209,10 +209,10 @@ module _ (m : Meaning) (T : Tables) (whole : Passes Refusal) where
   now_in (again f Γ t e w g l) s h = absurd (let z : ⊥ = omega arith in z)
   now_in (back t e k d l) s h = absurd (let z : ⊥ = omega arith in z)
 
-  asked : (sh : Shaped ps) (Γ : List ℕ) (i : ℕ) (j : Judgement) → i < length ps → reads m T Γ i ≡ j → NextOf ps i j
+  asked : (sh : Shaped ps) (Γ : List ℕ) (i : ℕ) (j : Result Judgement Misuse) → i < length ps → reads m T Γ i ≡ j → NextOf ps i j
   asked sh Γ i j h e = subst (NextOf ps i) e (next_of m T Γ i sh h)
 
-  read_as : (env : List ℕ) (i : ℕ) (es : List Entry) (n : Now m T env i es whole) (j : Judgement) → reads m T (take (slots_of ps i) env) i ≡ j
+  read_as : (env : List ℕ) (i : ℕ) (es : List Entry) (n : Now m T env i es whole) (j : Result Judgement Misuse) → reads m T (take (slots_of ps i) env) i ≡ j
       → first_of (follow ps (check_from m T n.f) (take (slots_of ps i) env) i j) (joint m T n.js) ≡ whole
   unfolding check_from
   read_as env i es n j e = ap (λ v. first_of (follow ps (check_from m T n.f) (take (slots_of ps i) env) i v) (joint m T n.js)) (sym e) ∙ n.same
@@ -221,22 +221,22 @@ module _ (m : Meaning) (T : Tables) (whole : Passes Refusal) where
     pub step_inside : i < length ps
     step_inside = (now_in a.laid a.same h).here.inside
 
-    pub step_done : reads m T (take (slots_of ps i) env) i ≡ Done → At m T env (i + 1) es whole
+    pub step_done : reads m T (take (slots_of ps i) env) i ≡ Ok Done → At m T env (i + 1) es whole
     step_done e =
         let n = now_in a.laid a.same h in
-        let ends : end_of ps i ≡ i + 1 = asked a.shaped _ i Done n.here.inside e in
+        let ends : end_of ps i ≡ i + 1 = asked a.shaped _ i (Ok Done) n.here.inside e in
         record {
           shaped = a.shaped;
           bnd = slots_of ps i;
           jobs = n.js;
           laid = subst (λ k. Laid ps env k (slots_of ps i) es n.js) ends n.tail;
-          same = read_as env i es n Done e;
+          same = read_as env i es n (Ok Done) e;
         }
 
-    pub step_binds : {env' : List ℕ} (new : List ℕ) → reads m T (take (slots_of ps i) env) i ≡ Binds new → Entered ps i env env' new → At m T env' (i + 1) es whole
+    pub step_binds : {env' : List ℕ} (new : List ℕ) → reads m T (take (slots_of ps i) env) i ≡ Ok (Binds new) → Entered ps i env env' new → At m T env' (i + 1) es whole
     step_binds new e ent =
         let n = now_in a.laid a.same h in
-        let one = asked a.shaped _ i (Binds new) n.here.inside e in
+        let one = asked a.shaped _ i (Ok (Binds new)) n.here.inside e in
         let Γ = take (slots_of ps i) env in
         record {
           shaped = a.shaped;
@@ -245,15 +245,15 @@ module _ (m : Meaning) (T : Tables) (whole : Passes Refusal) where
           laid = child ps a.shaped i n.f Γ one ent refl (within n.tail) (omega (arith, n.here.fuel))
               (omega (arith, n.here.deep, one.child.depth_is))
               (widen (more_slots ps a.shaped i one) (moved ps a.shaped i one ent n.tail));
-          same = read_as env i es n (Binds new) e;
+          same = read_as env i es n (Ok (Binds new)) e;
         }
 
-    pub step_splits : reads m T (take (slots_of ps i) env) i ≡ Splits → At m T env (i + 1) es whole
+    pub step_splits : reads m T (take (slots_of ps i) env) i ≡ Ok Splits → At m T env (i + 1) es whole
     step_splits e =
         let n = now_in a.laid a.same h in
         let sh = a.shaped in
-        let two = (asked sh _ i Splits n.here.inside e).0 in
-        let none = (asked sh _ i Splits n.here.inside e).1 in
+        let two = (asked sh _ i (Ok Splits) n.here.inside e).0 in
+        let none = (asked sh _ i (Ok Splits) n.here.inside e).1 in
         let Γ = take (slots_of ps i) env in
         let left : slots_of ps (i + 1) ≡ slots_of ps i = omega (arith, two.left.slots_are, none) in
         let right : slots_of ps (end_of ps (i + 1)) ≡ slots_of ps i = omega (arith, two.right.slots_are, none) in
@@ -284,38 +284,38 @@ module _ (m : Meaning) (T : Tables) (whole : Passes Refusal) where
               (ap (λ k. take k env) right)
               (subst (λ k. Laid ps env k (slots_of ps (end_of ps (i + 1))) es n.js) (sym two.ends)
               (widen (omega (arith, right)) n.tail)));
-          same = sym (first_of_assoc (check_from m T n.f Γ (i + 1)) (check_from m T n.f Γ (end_of ps (i + 1))) (joint m T n.js)) ∙ read_as env i es n Splits e;
+          same = sym (first_of_assoc (check_from m T n.f Γ (i + 1)) (check_from m T n.f Γ (end_of ps (i + 1))) (joint m T n.js)) ∙ read_as env i es n (Ok Splits) e;
         }
 
-    pub step_room : (new : List ℕ) (b : Bool) → reads m T (take (slots_of ps i) env) i ≡ Opens new b → length es < 6
-    step_room new b e =
+    pub step_room : (o : Option (List ℕ)) → reads m T (take (slots_of ps i) env) i ≡ Ok (Opens o) → length es < 6
+    step_room o e =
         let n = now_in a.laid a.same h in
-        omega (arith, n.here.deep, a.shaped.deep i n.here.inside (asked a.shaped _ i (Opens new b) n.here.inside e).1)
+        omega (arith, n.here.deep, a.shaped.deep i n.here.inside (asked a.shaped _ i (Ok (Opens o)) n.here.inside e).1)
 
     -- an open key: what follows is read once
-    pub step_once : {env' : List ℕ} (new : List ℕ) → reads m T (take (slots_of ps i) env) i ≡ Opens new false → Entered ps i env env' new → At m T env' (i + 1) (last i ∷ es) whole
-    step_once new e ent =
+    pub step_once : {env' : List ℕ} → reads m T (take (slots_of ps i) env) i ≡ Ok (Opens None) → Entered ps i env env' zeros → At m T env' (i + 1) (last i ∷ es) whole
+    step_once e ent =
         let n = now_in a.laid a.same h in
         let sh = a.shaped in
-        let one = (asked sh _ i (Opens new false) n.here.inside e).0 in
-        let opened = (asked sh _ i (Opens new false) n.here.inside e).1 in
+        let one = (asked sh _ i (Ok (Opens None)) n.here.inside e).0 in
+        let opened = (asked sh _ i (Ok (Opens None)) n.here.inside e).1 in
         let Γ = take (slots_of ps i) env in
         record {
           shaped = sh;
           bnd = slots_of ps (i + 1);
-          jobs = job n.f (extended (row ps i) Γ new) (i + 1) ∷ n.js;
+          jobs = job n.f (extended (row ps i) Γ zeros) (i + 1) ∷ n.js;
           laid = child ps sh i n.f Γ one ent refl (le_refl _) (omega (arith, n.here.fuel)) (omega (arith, n.here.deep, deeper ps sh i one opened))
-              (back i one.ends n.here.inside (step_room new false e) (widen (more_slots ps sh i one) (moved ps sh i one ent n.tail)));
-          same = read_as env i es n (Opens new false) e;
+              (back i one.ends n.here.inside (step_room None e) (widen (more_slots ps sh i one) (moved ps sh i one ent n.tail)));
+          same = read_as env i es n (Ok (Opens None)) e;
         }
 
     -- a declared key: what follows is read twice
-    pub step_twice : {env' : List ℕ} (new : List ℕ) → reads m T (take (slots_of ps i) env) i ≡ Opens new true → Entered ps i env env' new → At m T env' (i + 1) (due i ∷ es) whole
+    pub step_twice : {env' : List ℕ} (new : List ℕ) → reads m T (take (slots_of ps i) env) i ≡ Ok (Opens (Some new)) → Entered ps i env env' new → At m T env' (i + 1) (due i ∷ es) whole
     step_twice new e ent =
         let n = now_in a.laid a.same h in
         let sh = a.shaped in
-        let one = (asked sh _ i (Opens new true) n.here.inside e).0 in
-        let opened = (asked sh _ i (Opens new true) n.here.inside e).1 in
+        let one = (asked sh _ i (Ok (Opens (Some new))) n.here.inside e).0 in
+        let opened = (asked sh _ i (Ok (Opens (Some new))) n.here.inside e).1 in
         let Γ = take (slots_of ps i) env in
         record {
           shaped = sh;
@@ -333,11 +333,11 @@ module _ (m : Meaning) (T : Tables) (whole : Passes Refusal) where
               })
               (ent.below _ (le_refl _))
               (moved ps sh i one ent n.tail));
-          same = sym (first_of_assoc (check_from m T n.f (extended (row ps i) Γ new) (i + 1)) (check_from m T n.f (extended (row ps i) Γ zeros) (i + 1)) (joint m T n.js)) ∙ read_as env i es n (Opens new true) e;
+          same = sym (first_of_assoc (check_from m T n.f (extended (row ps i) Γ new) (i + 1)) (check_from m T n.f (extended (row ps i) Γ zeros) (i + 1)) (joint m T n.js)) ∙ read_as env i es n (Ok (Opens (Some new))) e;
         }
 
-    pub step_refuses : (x : Misuse) → reads m T (take (slots_of ps i) env) i ≡ Refuses x → Err (Typing x i) ≡ whole
-    step_refuses x e = read_as env i es (now_in a.laid a.same h) (Refuses x) e
+    pub step_refuses : (x : Misuse) → reads m T (take (slots_of ps i) env) i ≡ Err x → Err (Typing x i) ≡ whole
+    step_refuses x e = read_as env i es (now_in a.laid a.same h) (Err x) e
 
   -- ---- the walk at the end of an aopen
 

@@ -1,6 +1,6 @@
 -- Schemes with the same answers have one meaning, and so one verdict.
-use Rattle.std.proofs.Common.{◌≡◌, ℕ, ◌<◌, ◌≤◌, true, false, ◌&&◌, ◌⊎◌, sym, ap, ◌∙◌, inl, inr, ⊎_elim, arith}
-use Rattle.std.proofs.lemmas.Bool.{cases_lt, cases_Bool, and_left, and_right}
+use Rattle.std.proofs.Common.{◌≡◌, ℕ, ◌<◌, ◌≤◌, false, ◌&&◌, ◌⊎◌, sym, ap, ◌∙◌, inl, inr, ⊎_elim, arith}
+use Rattle.std.proofs.lemmas.Bool.{cases_lt, and_parts, false_from_ne_true}
 use Rattle.levels.specs.Meaning.{Meaning, Lawful, SameAnswers}
 use Rattle.rows.specs.Tables.{Tables}
 use Rattle.shape.specs.First.{Passes}
@@ -10,18 +10,14 @@ use Rattle.checking.specs.Theorems.{ByAnswers}
 
 -- a number past sixteen bits is no level, and so nothing is below it or above it
 no_level : (m : Meaning) → Lawful m → (a : ℕ) → 65536 ≤ a → m.level a ≡ false
-no_level m k a h = ⊎_elim (λ t. absurd (let z : ⊥ = omega (arith, k.bounded a t) in z)) (λ f. f) (cases_Bool (m.level a))
+no_level m k a h = false_from_ne_true (m.level a) (λ t. omega (arith, k.bounded a t))
 
 outside : (m : Meaning) → Lawful m → (a b : ℕ) → (65536 ≤ a) ⊎ (65536 ≤ b) → (m.level a && m.level b) ≡ false
-outside m k a b (inl h) = and_left (m.level a) (m.level b) (no_level m k a h)
-outside m k a b (inr h) = and_right (m.level a) (m.level b) (no_level m k b h)
+outside m k a b far =
+    false_from_ne_true (m.level a && m.level b) (λ t. let w = and_parts (m.level a) (m.level b) t in omega (arith, k.bounded a w.0, k.bounded b w.1))
 
 not_below : (m : Meaning) → Lawful m → (a b : ℕ) → (65536 ≤ a) ⊎ (65536 ≤ b) → m.below a b ≡ false
-not_below m k a b far = ⊎_elim (λ t. absurd (too_far far (k.below_levels a b t))) (λ f. f) (cases_Bool (m.below a b))
-  where
-    too_far : (65536 ≤ a) ⊎ (65536 ≤ b) → (m.level a ≡ true) × (m.level b ≡ true) → ⊥
-    too_far (inl h) w = omega (arith, k.bounded a w.0)
-    too_far (inr h) w = omega (arith, k.bounded b w.1)
+not_below m k a b far = false_from_ne_true (m.below a b) (λ t. let w = k.below_levels a b t in omega (arith, k.bounded a w.0, k.bounded b w.1))
 
 -- two numbers of sixteen bits, or one that is not
 near : (a b : ℕ) → ((a < 65536) × (b < 65536)) ⊎ ((65536 ≤ a) ⊎ (65536 ≤ b))

@@ -1,61 +1,52 @@
 -- What a turn of the walk keeps, and that each turn keeps it.
-use Rattle.std.proofs.Common.{◌≡◌, ℕ, ◌+◌, ◌-◌, ◌<◌, ◌≤◌, Bool, true, false, List, ◌∷◌, length, get_or, take, drop, set, replicate, Ok, Err, sym, refl, ap, ◌∙◌, subst, ap₂, arith, length-drop, length-set, length-take}
-use Rattle.std.proofs.lemmas.List.{take_all}
+use Rattle.std.proofs.Common.{◌≡◌, ℕ, ◌+◌, ◌-◌, ◌<◌, ◌≤◌, Bool, true, false, List, ◌∷◌, length, get_or, take, set, replicate, Some, None, Option, is_some, unwrap_or, Ok, Err, Result, sym, refl, ap, ◌∙◌, subst, arith, length-set}
+use Rattle.std.proofs.lemmas.List.{get_or-take, length-take-le}
 use Rattle.levels.specs.Meaning.{Meaning}
 use Rattle.rows.specs.declared.process.ProcessRow.{ProcessRow}
-use Rattle.rows.specs.Processes.{row, end_of, slots_of, run_of}
+use Rattle.rows.specs.Processes.{end_of, slots_of}
 use Rattle.rows.specs.Tables.{Tables}
 use Rattle.shape.specs.First.{Passes}
 use Rattle.shape.proofs.Shaped.{Shaped}
 use Rattle.typing.specs.declared.misuse.Misuse.{Misuse}
 use Rattle.typing.specs.declared.judging.Judgement.{Judgement}
-use Rattle.typing.specs.declared.judging.Judgement.TheVariants.{Done, Binds, Splits, Opens, Refuses}
-use Rattle.typing.specs.Judging.{zeros, reading, reads}
+use Rattle.typing.specs.declared.judging.Judgement.TheVariants.{Done, Binds, Splits, Opens}
+use Rattle.typing.specs.Judging.{zeros, reads}
 use Rattle.checking.specs.declared.refusal.Refusal.{Refusal}
-use Rattle.checking.specs.declared.refusal.Refusal.TheVariants.{Typing}
-use Rattle.checking.specs.Stack.{limit_at}
-use Rattle.checking.specs.Verdict.{rules}
+use Rattle.checking.specs.Stack.{limit_of}
+use Rattle.checking.specs.Verdict.{refused_at, rules}
 use Rattle.checking.proofs.Entries.{Entry, last, entry, held, limit, limit_is, length_held, held_push, held_top, held_again}
 use Rattle.checking.proofs.Pending.{At, Entered, within, held_inside, start, finish, step_inside, step_done, step_binds, step_splits, step_once, step_twice, step_room, step_refuses, step_again, step_back}
 use Rattle.checking.proofs.Weight.{weight, weight_falls, weight_pushes, weight_again, weight_back}
 
--- where the walk stands: the row, the types, the two arrays of the stack, and room for the types of a run
-pub record Turn (m : Meaning) (T : Tables) (env : List ℕ) (i top : ℕ) (stack : List ℕ) (dues : List Bool) (room : ℕ) (whole : Passes Refusal) : Type 0 where
+-- where the walk stands: the row, the types, and the two arrays of the stack
+pub record Turn (m : Meaning) (T : Tables) (env : List ℕ) (i top : ℕ) (stack : List ℕ) (dues : List Bool) (whole : Passes Refusal) : Type 0 where
   pub few : top ≤ 6
   pub within_rows : i ≤ length T.processes
   pub env_long : length env ≡ 32
   pub stack_long : length stack ≡ 6
   pub dues_long : length dues ≡ 6
-  pub room_is : room ≡ 2048
-  pub terms_few : length T.terms ≤ 2048
   pub at : At m T env i (held top stack dues) whole
 
-pub begins : (m : Meaning) (T : Tables) → Shaped T.processes → length T.terms ≤ 2048
-    → Turn m T (replicate 32 0) 0 0 (replicate 6 0) (replicate 6 false) 2048 (rules m T)
-begins m T sh few =
-    record { few = omega arith; within_rows = omega arith; env_long = refl; stack_long = refl; dues_long = refl; room_is = refl; terms_few = few; at = start m T sh }
+pub begins : (m : Meaning) (T : Tables) → Shaped T.processes → Turn m T (replicate 32 0) 0 0 (replicate 6 0) (replicate 6 false) (rules m T)
+begins m T sh = record { few = omega arith; within_rows = omega arith; env_long = refl; stack_long = refl; dues_long = refl; at = start m T sh }
 
 -- the same turn, by equal parts
-pub turn_as : {m : Meaning} {T : Tables} {env env' : List ℕ} {i top top' : ℕ} {stack stack' : List ℕ} {dues dues' : List Bool} {room room' : ℕ} {whole : Passes Refusal}
-    → env' ≡ env → top' ≡ top → stack' ≡ stack → dues' ≡ dues → room' ≡ room → Turn m T env i top stack dues room whole → Turn m T env' i top' stack' dues' room' whole
-turn_as {m} {T} {env} {env'} {i} {top} {top'} {stack} {stack'} {dues} {dues'} {room} {room'} {whole} a b c d e t =
-    subst (λ x. Turn m T x i top' stack' dues' room' whole) (sym a)
-    (subst (λ x. Turn m T env i x stack' dues' room' whole) (sym b)
-    (subst (λ x. Turn m T env i top x dues' room' whole) (sym c)
-    (subst (λ x. Turn m T env i top stack x room' whole) (sym d)
-    (subst (λ x. Turn m T env i top stack dues x whole) (sym e) t))))
+pub turn_as : {m : Meaning} {T : Tables} {env env' : List ℕ} {i top top' : ℕ} {stack stack' : List ℕ} {dues dues' : List Bool} {whole : Passes Refusal}
+    → env' ≡ env → top' ≡ top → stack' ≡ stack → dues' ≡ dues → Turn m T env i top stack dues whole → Turn m T env' i top' stack' dues' whole
+turn_as a b c d t = rw (a, b, c, d) t
 
 pub weight_as : (n i w : ℕ) {top top' : ℕ} {stack stack' : List ℕ} {dues dues' : List Bool}
     → top' ≡ top → stack' ≡ stack → dues' ≡ dues → weight n i (held top stack dues) < w → weight n i (held top' stack' dues') < w
-weight_as n i w {top} {top'} {stack} {stack'} {dues} {dues'} b c d h =
-    subst (λ x. weight n i (held x stack' dues') < w) (sym b)
-    (subst (λ x. weight n i (held top x dues') < w) (sym c)
-    (subst (λ x. weight n i (held top stack x) < w) (sym d) h))
+weight_as n i w b c d h = rw (b, c, d) h
 
-module _ {m : Meaning} {T : Tables} {env : List ℕ} {i top : ℕ} {stack : List ℕ} {dues : List Bool} {room : ℕ} {whole : Passes Refusal}
-    (t : Turn m T env i top stack dues room whole) where
+module _ {m : Meaning} {T : Tables} {env : List ℕ} {i top : ℕ} {stack : List ℕ} {dues : List Bool} {whole : Passes Refusal}
+    (t : Turn m T env i top stack dues whole) where
   abbrev ps : List ProcessRow
   ps = T.processes
+
+  -- where the code stops
+  abbrev stops : ℕ
+  stops = limit_of ps (take top stack)
 
   abbrev es : List Entry
   es = held top stack dues
@@ -64,11 +55,11 @@ module _ {m : Meaning} {T : Tables} {env : List ℕ} {i top : ℕ} {stack : List
   shaped = t.at.shaped
 
   -- below the place where the code stops
-  under : i < limit_at ps stack top → i < limit ps es
-  under h = subst (λ k. i < k) (sym (limit_is ps top stack dues)) h
+  under : {stop : ℕ} → stop ≡ stops → i < stop → i < limit ps es
+  under e h = omega (arith, e, limit_is ps top stack dues (omega (arith, t.few, t.stack_long)))
 
-  over : limit_at ps stack top ≤ i → limit ps es ≤ i
-  over h = subst (λ k. k ≤ i) (sym (limit_is ps top stack dues)) h
+  over : {stop : ℕ} → stop ≡ stops → stop ≤ i → limit ps es ≤ i
+  over e h = omega (arith, e, limit_is ps top stack dues (omega (arith, t.few, t.stack_long)))
 
   topmost : 0 < top → (b : Bool) → get_or dues (top - 1) false ≡ b → At m T env i (entry b (get_or stack (top - 1) 0) ∷ held (top - 1) stack dues) whole
   topmost h b e = subst (λ k. At m T env i k whole) (held_top top stack dues b h e) t.at
@@ -80,29 +71,38 @@ module _ {m : Meaning} {T : Tables} {env : List ℕ} {i top : ℕ} {stack : List
       by true e = held_inside (topmost h true e).laid
       by false e = held_inside (topmost h false e).laid
 
+  pub known : 0 < length (take top stack) → get_or (take top stack) (length (take top stack) - 1) 0 < length ps
+  known h =
+      let in_stack : top ≤ length stack = omega (arith, t.few, t.stack_long) in
+      let some : 0 < top = omega (arith, length-take-le top stack in_stack) in
+      let below : top - 1 < top = omega arith in
+      rw (length-take-le top stack in_stack, get_or-take top stack (top - 1) 0 below) (top_inside some)
+
   -- at the end of the innermost aopen
-  ends : 0 < top → limit_at ps stack top ≤ i → i ≡ end_of ps (get_or stack (top - 1) 0)
-  ends h le = by (get_or dues (top - 1) false) refl
+  ends : {stop : ℕ} → 0 < top → stop ≡ stops → stop ≤ i → i ≡ end_of ps (get_or stack (top - 1) 0)
+  ends h is le = by (get_or dues (top - 1) false) refl
     where
       by : (b : Bool) → get_or dues (top - 1) false ≡ b → i ≡ end_of ps (get_or stack (top - 1) 0)
-      by true e = omega (arith, over le, ap (limit ps) (held_top top stack dues true h e), within (topmost h true e).laid)
-      by false e = omega (arith, over le, ap (limit ps) (held_top top stack dues false h e), within (topmost h false e).laid)
+      by true e = omega (arith, over is le, ap (limit ps) (held_top top stack dues true h e), within (topmost h true e).laid)
+      by false e = omega (arith, over is le, ap (limit ps) (held_top top stack dues false h e), within (topmost h false e).laid)
 
-  module _ (h : i < limit_at ps stack top) where
+  -- the code stops at `stop`
+  module _ {stop : ℕ} (is : stop ≡ stops) (h : i < stop) where
     pub on : i < length ps
-    on = step_inside m T whole t.at (under h)
+    on = step_inside m T whole t.at (under is h)
 
-    -- the code reads the row as the rules do
-    pub read_by : (j : Judgement) → j ≡ reading m T.types (take ((row ps i).slots - 0) env) (take room (run_of T.terms (row ps i))) (row ps i)
-        → reads m T (take (slots_of ps i) env) i ≡ j
-    read_by j e =
-        let whole_run : take room (run_of T.terms (row ps i)) ≡ run_of T.terms (row ps i) =
-        take_all room (run_of T.terms (row ps i)) (omega (arith, t.room_is, t.terms_few, length-take (row ps i).terms (drop (row ps i).first T.terms), length-drop (row ps i).first T.terms)) in
-        let z : (row ps i).slots - 0 ≡ (row ps i).slots = omega arith in
-        sym (e ∙ ap₂ (λ n us. reading m T.types (take n env) us (row ps i)) z whole_run)
+    abbrev row_at : Result Judgement Misuse
+    row_at = reads m T (take (slots_of ps i) env) i
+
+    pub read_ok : (j k : Judgement) → j ≡ k → Ok j ≡ refused_at i row_at → row_at ≡ Ok k
+    read_ok j k p e = by row_at refl e
+      where
+        by : (r : Result Judgement Misuse) → row_at ≡ r → Ok j ≡ refused_at i r → row_at ≡ Ok k
+        by (Ok x) q e = cc
+        by (Err x) q e = absurd (cc)
 
     -- an arm that leaves the stack
-    plain_turn : {env' : List ℕ} → length env' ≡ length env → At m T env' (i + 1) es whole → Turn m T env' (i + 1) top stack dues room whole
+    plain_turn : {env' : List ℕ} → length env' ≡ length env → At m T env' (i + 1) es whole → Turn m T env' (i + 1) top stack dues whole
     plain_turn l a =
         record {
           few = t.few;
@@ -110,72 +110,70 @@ module _ {m : Meaning} {T : Tables} {env : List ℕ} {i top : ℕ} {stack : List
           env_long = l ∙ t.env_long;
           stack_long = t.stack_long;
           dues_long = t.dues_long;
-          room_is = t.room_is;
-          terms_few = t.terms_few;
           at = a;
         }
 
-    pub on_done : reads m T (take (slots_of ps i) env) i ≡ Done → Turn m T env (i + 1) top stack dues room whole
-    on_done e = plain_turn refl (step_done m T whole t.at (under h) e)
+    pub on_done : row_at ≡ Ok Done → Turn m T env (i + 1) top stack dues whole
+    on_done e = plain_turn refl (step_done m T whole t.at (under is h) e)
 
-    pub on_splits : reads m T (take (slots_of ps i) env) i ≡ Splits → Turn m T env (i + 1) top stack dues room whole
-    on_splits e = plain_turn refl (step_splits m T whole t.at (under h) e)
+    pub on_splits : row_at ≡ Ok Splits → Turn m T env (i + 1) top stack dues whole
+    on_splits e = plain_turn refl (step_splits m T whole t.at (under is h) e)
 
-    pub on_binds : (env' new : List ℕ) → reads m T (take (slots_of ps i) env) i ≡ Binds new → Entered ps i env env' new → length env' ≡ length env
-        → Turn m T env' (i + 1) top stack dues room whole
-    on_binds env' new e ent l = plain_turn l (step_binds m T whole t.at (under h) new e ent)
+    pub on_binds : (env' new : List ℕ) → row_at ≡ Ok (Binds new) → Entered ps i env env' new → length env' ≡ length env
+        → Turn m T env' (i + 1) top stack dues whole
+    on_binds env' new e ent l = plain_turn l (step_binds m T whole t.at (under is h) new e ent)
 
-    pub space : (new : List ℕ) (b : Bool) → reads m T (take (slots_of ps i) env) i ≡ Opens new b → top < 6
-    space new b e = omega (arith, step_room m T whole t.at (under h) new b e, length_held top stack dues)
+    pub space : (o : Option (List ℕ)) → row_at ≡ Ok (Opens o) → top < 6
+    space o e = omega (arith, step_room m T whole t.at (under is h) o e, length_held top stack dues)
 
-    opened_at : (env' new : List ℕ) (b : Bool) → reads m T (take (slots_of ps i) env) i ≡ Opens new b → Entered ps i env env' new → At m T env' (i + 1) (entry b i ∷ es) whole
-    opened_at env' new true e ent = step_twice m T whole t.at (under h) new e ent
-    opened_at env' new false e ent = step_once m T whole t.at (under h) new e ent
+    opened_at : (env' : List ℕ) (o : Option (List ℕ)) → row_at ≡ Ok (Opens o) → Entered ps i env env' (unwrap_or o zeros) → At m T env' (i + 1) (entry (is_some o) i ∷ es) whole
+    opened_at env' (Some new) e ent = step_twice m T whole t.at (under is h) new e ent
+    opened_at env' None e ent = step_once m T whole t.at (under is h) e ent
 
-    pushed : (new : List ℕ) (b : Bool) → reads m T (take (slots_of ps i) env) i ≡ Opens new b → held (top + 1) (set stack top i) (set dues top b) ≡ entry b i ∷ es
-    pushed new b e = held_push top stack dues i b (omega (arith, space new b e, t.stack_long)) (omega (arith, space new b e, t.dues_long))
+    pushed : (o : Option (List ℕ)) → row_at ≡ Ok (Opens o) → held (top + 1) (set stack top i) (set dues top (is_some o)) ≡ entry (is_some o) i ∷ es
+    pushed o e = held_push top stack dues i (is_some o) (omega (arith, space o e, t.stack_long)) (omega (arith, space o e, t.dues_long))
 
-    pub on_opens : (env' new : List ℕ) (b : Bool) → reads m T (take (slots_of ps i) env) i ≡ Opens new b → Entered ps i env env' new → length env' ≡ length env
-        → Turn m T env' (i + 1) (top + 1) (set stack top i) (set dues top b) room whole
-    on_opens env' new b e ent l =
-        record {
-          few = omega (arith, space new b e);
+    pub on_opens : (env' new : List ℕ) (o : Option (List ℕ)) (b : Bool) → row_at ≡ Ok (Opens o)
+        → new ≡ unwrap_or o zeros → b ≡ is_some o → Entered ps i env env' new → length env' ≡ length env
+        → Turn m T env' (i + 1) (top + 1) (set stack top i) (set dues top b) whole
+    on_opens env' new o b e p q ent l =
+        rw q (record {
+          few = omega (arith, space o e);
           within_rows = omega (arith, on);
           env_long = l ∙ t.env_long;
           stack_long = length-set stack top i ∙ t.stack_long;
-          dues_long = length-set dues top b ∙ t.dues_long;
-          room_is = t.room_is;
-          terms_few = t.terms_few;
-          at = subst (λ k. At m T env' (i + 1) k whole) (sym (pushed new b e)) (opened_at env' new b e ent);
-        }
+          dues_long = length-set dues top (is_some o) ∙ t.dues_long;
+          at = subst (λ k. At m T env' (i + 1) k whole) (sym (pushed o e)) (opened_at env' o e (subst (Entered ps i env env') p ent));
+        })
 
-    pub on_refuses : (x : Misuse) → reads m T (take (slots_of ps i) env) i ≡ Refuses x → Err (Typing x i) ≡ whole
-    on_refuses x e = step_refuses m T whole t.at (under h) x e
+    pub on_refuses : (x : Refusal) → Err x ≡ refused_at i row_at → Err x ≡ whole
+    on_refuses x e = by row_at refl e
+      where
+        by : (r : Result Judgement Misuse) → row_at ≡ r → Err x ≡ refused_at i r → Err x ≡ whole
+        by (Ok y) q e = absurd (cc)
+        by (Err y) q e = let z = step_refuses m T whole t.at (under is h) y q in cc
 
     pub falls : weight (length ps) (i + 1) es < weight (length ps) i es
     falls = weight_falls (length ps) i es on
 
-    pub falls_opens : (new : List ℕ) (b : Bool) → reads m T (take (slots_of ps i) env) i ≡ Opens new b
+    pub falls_opens : (o : Option (List ℕ)) (b : Bool) → row_at ≡ Ok (Opens o) → b ≡ is_some o
         → weight (length ps) (i + 1) (held (top + 1) (set stack top i) (set dues top b)) < weight (length ps) i es
-    falls_opens new b e =
-        subst (λ k. weight (length ps) (i + 1) k < weight (length ps) i es) (sym (pushed new b e))
-        (weight_pushes (length ps) i b es (omega (arith, space new b e, length_held top stack dues)))
+    falls_opens o b e q =
+        rw (q, pushed o e) (weight_pushes (length ps) i (is_some o) es (omega (arith, space o e, length_held top stack dues)))
 
   -- the second reading of the innermost aopen begins
-  pub on_again : (env' : List ℕ) → 0 < top → limit_at ps stack top ≤ i → get_or dues (top - 1) false ≡ true
+  pub on_again : {stop : ℕ} (env' : List ℕ) → 0 < top → stop ≡ stops → stop ≤ i → get_or dues (top - 1) false ≡ true
       → Entered ps (get_or stack (top - 1) 0) env env' zeros → length env' ≡ length env
-      → Turn m T env' (get_or stack (top - 1) 0 + 1) top stack (set dues (top - 1) false) room whole
-  on_again env' p h e ent l =
+      → Turn m T env' (get_or stack (top - 1) 0 + 1) top stack (set dues (top - 1) false) whole
+  on_again env' p is h e ent l =
       record {
         few = t.few;
         within_rows = omega (arith, top_inside p);
         env_long = l ∙ t.env_long;
         stack_long = t.stack_long;
         dues_long = length-set dues (top - 1) false ∙ t.dues_long;
-        room_is = t.room_is;
-        terms_few = t.terms_few;
         at = subst (λ k. At m T env' (get_or stack (top - 1) 0 + 1) k whole) (sym (held_again top stack dues p (omega (arith, t.few, t.dues_long))))
-            (step_again m T whole (topmost p true e) (ends p h) ent);
+            (step_again m T whole (topmost p true e) (ends p is h) ent);
       }
 
   pub falls_again : 0 < top → get_or dues (top - 1) false ≡ true
@@ -186,25 +184,23 @@ module _ {m : Meaning} {T : Tables} {env : List ℕ} {i top : ℕ} {stack : List
       (weight_again (length ps) i (get_or stack (top - 1) 0) (held (top - 1) stack dues) (omega (arith, length_held (top - 1) stack dues, t.few, p)) (top_inside p)))
 
   -- the innermost aopen is left
-  pub on_back : 0 < top → limit_at ps stack top ≤ i → get_or dues (top - 1) false ≡ false → Turn m T env i (top - 1) stack dues room whole
-  on_back p h e =
+  pub on_back : {stop : ℕ} → 0 < top → stop ≡ stops → stop ≤ i → get_or dues (top - 1) false ≡ false → Turn m T env i (top - 1) stack dues whole
+  on_back p is h e =
       record {
         few = omega (arith, t.few);
         within_rows = t.within_rows;
         env_long = t.env_long;
         stack_long = t.stack_long;
         dues_long = t.dues_long;
-        room_is = t.room_is;
-        terms_few = t.terms_few;
-        at = step_back m T whole (topmost p false e) (ends p h);
+        at = step_back m T whole (topmost p false e) (ends p is h);
       }
 
-  pub falls_back : 0 < top → limit_at ps stack top ≤ i → get_or dues (top - 1) false ≡ false → weight (length ps) i (held (top - 1) stack dues) < weight (length ps) i es
-  falls_back p h e =
+  pub falls_back : {stop : ℕ} → 0 < top → stop ≡ stops → stop ≤ i → get_or dues (top - 1) false ≡ false → weight (length ps) i (held (top - 1) stack dues) < weight (length ps) i es
+  falls_back p is h e =
       subst (λ k. weight (length ps) i (held (top - 1) stack dues) < weight (length ps) i k) (sym (held_top top stack dues false p e))
-      (weight_back (length ps) i (get_or stack (top - 1) 0) (held (top - 1) stack dues) (omega (arith, ends p h, shaped.above (get_or stack (top - 1) 0) (top_inside p))) (top_inside p))
+      (weight_back (length ps) i (get_or stack (top - 1) 0) (held (top - 1) stack dues) (omega (arith, ends p is h, shaped.above (get_or stack (top - 1) 0) (top_inside p))) (top_inside p))
 
-  pub at_end : top ≡ 0 → limit_at ps stack top ≤ i → Ok tt ≡ whole
-  at_end z h =
+  pub at_end : {stop : ℕ} → top ≡ 0 → stop ≡ stops → stop ≤ i → Ok tt ≡ whole
+  at_end z is h =
       let a = subst (λ k. At m T env i (held k stack dues) whole) z t.at in
-      finish m T whole a (omega (arith, ap (limit_at ps stack) z))
+      finish m T whole a (omega (arith, is, ap (λ k. limit_of ps (take k stack)) z))

@@ -6,7 +6,7 @@ use shape::ShapeFault;
 use typing::Misuse;
 
 /// Why a listing is refused.
-#[derive(Clone, Copy)]
+#[derive(Clone, Copy, Debug, PartialEq, Eq)]
 pub enum Refusal {
     /// its tables are out of shape
     Shape(ShapeFault),

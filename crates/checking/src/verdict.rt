@@ -1,17 +1,18 @@
 ghost use Rattle.std.specs.Prelude.{◌≡◌, ℕ, ◌+◌, ◌-◌, ◌<◌, ◌≤◌, ◌++◌, length, take, Ok, slice_index};
 ghost use Rattle.levels.specs.Means.{means};
-ghost use Rattle.rows.specs.Processes.{adds};
+ghost use Rattle.rows.specs.Processes.{adds, slots_of};
 ghost use Rattle.rows.specs.Tables.{tables};
 ghost use Rattle.shape.specs.Whole.{shape};
-ghost use Rattle.checking.specs.Stack.{limit_at};
+ghost use Rattle.typing.specs.Judging.{reads};
+ghost use Rattle.checking.specs.Stack.{limit_of};
 ghost use Rattle.checking.specs.Theorems.{Decides, ByAnswers};
-ghost use Rattle.checking.specs.Verdict.{rules, verdict};
+ghost use Rattle.checking.specs.Verdict.{refused_at, rules, verdict};
 
 use crate::refusal::Refusal;
 use levels::Scheme;
 use rows::{Listing, ProcessRow, TypeRow};
 use shape::in_shape;
-use typing::{Judgement, judge_row};
+use typing::{Judgement, Rules};
 
 // Writes the types that a row binds into its new slots.
 fn enter(env: &mut [u16], row: ProcessRow, new: &[u16])
@@ -22,25 +23,50 @@ fn enter(env: &mut [u16], row: ProcessRow, new: &[u16])
 {
     let n = row.added() as usize;
     let from = row.slots as usize;
-    env[from..from + n].copy_from_slice(&new[0..n]);
+    env[from..from + n].copy_from_slice(&new[..n]);
 }
 
-// Where the rows end that are read now: at the end of the innermost aopen, or of the table.
-fn stop_at(rows: &[ProcessRow], stack: &[u16], top: usize) -> u16
-    requires held { top ≤ length stack.now }
-    requires known { 0 < top → slice_index stack.now (top - 1) < length rows.now }
+// Where the rows end that are read now: at the end of the innermost of the aopens on the way down, or
+// of the table.
+fn stop_at(rows: &[ProcessRow], aopens: &[u16]) -> u16
+    requires known { 0 < length aopens.now → slice_index aopens.now (length aopens.now - 1) < length rows.now }
     requires short { length rows.now ≤ 512 }
-    ensures { result ≡ limit_at rows.now stack.now top }
+    ensures { result ≡ limit_of rows.now aopens.now }
 {
-    if top == 0 {
-        rows.len() as u16
-    } else {
-        rows[stack[top - 1] as usize].end
+    match aopens.last() {
+        Some(t) => rows[*t as usize].end,
+        None => rows.len() as u16,
     }
+}
+
+// What row `i` comes to, where the first types of `env` are those of its slots; a misuse is refused
+// with the row.
+fn judge_at<S: Scheme>(
+    s: &S,
+    l: Listing,
+    i: u16,
+    env: &[u16],
+    seen: &mut [TypeRow],
+) -> Result<Judgement, Refusal>
+    requires inside { i < length l.processes.now }
+    requires scope { slots_of l.processes.now i ≤ length env.now }
+    requires room { length l.terms.now ≤ length seen.old }
+    ensures { result ≡ refused_at i (reads (means S.Scheme s.now) (tables l.entry) (take (slots_of l.entry.processes.now i) env.now) i) }
+{
+    let row = l.processes[i as usize];
+    let rules = Rules {
+        scheme: s,
+        types: l.types,
+    };
+    rules
+        .judge_row(l.terms, &env[..row.slots as usize], row, seen)
+        .map_err(|misuse| Refusal::Typing(misuse, i as usize))
 }
 
 // Reads the rows in order. `stack` has an entry for each aopen on the way down, and `due` says whether
 // it is still to be read a second time.
+// Kept: two arrays and their count, by a rule of the project: the walk is one loop over a local stack
+// of plain numbers, and no generic function calls itself.
 fn walk<S: Scheme>(s: &S, l: Listing) -> Result<(), Refusal>
     requires { shape (means S.Scheme s.now) (tables l) ≡ Ok tt }
     ensures { result ≡ rules (means S.Scheme s.now) (tables l.entry) }
@@ -53,19 +79,18 @@ fn walk<S: Scheme>(s: &S, l: Listing) -> Result<(), Refusal>
     let mut top: usize = 0;
     let mut i: u16 = 0;
     'turn: loop {
-        if i < stop_at(rows, &stack, top) {
+        if i < stop_at(rows, &stack[..top]) {
             let row = rows[i as usize];
-            match judge_row(s, l, &env[0..row.slots as usize], row, &mut seen) {
-                Judgement::Done => {}
-                Judgement::Splits => {}
+            let judgement = judge_at(s, l, i, &env, &mut seen)?;
+            match judgement {
+                Judgement::Done | Judgement::Splits => {}
                 Judgement::Binds(new) => enter(&mut env, row, &new),
-                Judgement::Opens(new, again) => {
-                    enter(&mut env, row, &new);
+                Judgement::Opens(payload) => {
+                    enter(&mut env, row, &payload.unwrap_or([0; 4]));
                     stack[top] = i;
-                    due[top] = again;
+                    due[top] = payload.is_some();
                     top += 1;
                 }
-                Judgement::Refuses(misuse) => return Err(Refusal::Typing(misuse, i as usize)),
             }
             i += 1;
         } else if top == 0 {
@@ -73,7 +98,7 @@ fn walk<S: Scheme>(s: &S, l: Listing) -> Result<(), Refusal>
         } else if due[top - 1] {
             due[top - 1] = false;
             i = stack[top - 1];
-            enter(&mut env, rows[i as usize], &[0, 0, 0, 0]);
+            enter(&mut env, rows[i as usize], &[0; 4]);
             i += 1;
         } else {
             top -= 1;

@@ -41,6 +41,6 @@ abbrev pub fault_number : SchemeFault → ℕ
 fault_number PartyCount = 20
 
 -- what is made of a number of parties: a scheme of so many for 1 to 8, and else a refusal
-abbrev pub made_of : ℕ → Result Parties SchemeFault → Type 0
-made_of n (Ok p) = (p.count ≡ n) × (1 ≤ n) × (n ≤ 8)
-made_of n (Err e) = (e ≡ PartyCount) × ((n ≡ 0) ⊎ (8 < n))
+abbrev pub MadeOf : ℕ → Result Parties SchemeFault → Type 0
+MadeOf n (Ok p) = (p.count ≡ n) × (1 ≤ n) × (n ≤ 8)
+MadeOf n (Err e) = (e ≡ PartyCount) × ((n ≡ 0) ⊎ (8 < n))

@@ -8,7 +8,7 @@ use crate::scheme::Scheme;
 const OPEN: u16 = 1;
 
 /// The four levels: 2 stands for high confidentiality, and 1 more for low integrity.
-#[derive(Clone, Copy)]
+#[derive(Clone, Copy, Debug, PartialEq, Eq)]
 pub struct FourLevels;
 
 impl Scheme for FourLevels {

@@ -8,9 +8,9 @@ pub struct Parties {
     ghost few: { count ≤ 8 },
 }
 
-/// Why a scheme cannot be made.
-#[derive(Clone, Copy)]
+/// Why a scheme cannot be made. A fault's value is the number by which it is reported.
+#[derive(Clone, Copy, Debug, PartialEq, Eq)]
 pub enum SchemeFault {
     /// the number of parties is not 1 to 8
-    PartyCount,
+    PartyCount = 20,
 }

@@ -1,6 +1,6 @@
 ghost use Rattle.std.specs.Prelude.{◌≡◌, ℕ, ◌-◌, ◌^◌, ◌≤◌};
 ghost use Rattle.levels.specs.Masks.{within};
-ghost use Rattle.levels.specs.Party.{fault_number, made_of, party_level, party_below, party_meet, party_open, readers, writers};
+ghost use Rattle.levels.specs.Party.{fault_number, MadeOf, party_level, party_below, party_meet, party_open, readers, writers};
 ghost use Rattle.levels.specs.PartyLaws.{party_laws};
 
 use crate::parties::{Parties, SchemeFault};
@@ -11,18 +11,16 @@ impl SchemeFault {
     pub fn number(self) -> u16
         ensures { result ≡ fault_number self }
     {
-        match self {
-            SchemeFault::PartyCount => 20,
-        }
+        self as u16
     }
 }
 
 impl Parties {
     /// The scheme of so many parties; it refuses any number but 1 to 8.
     pub fn new(count: u16) -> Result<Parties, SchemeFault>
-        ensures { made_of count result }
+        ensures { MadeOf count result }
     {
-        if count < 1 || count > 8 {
+        if !(1..=8).contains(&count) {
             return Err(SchemeFault::PartyCount);
         }
         Ok(Parties { count })

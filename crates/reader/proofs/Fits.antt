@@ -1,5 +1,5 @@
 -- Lists of row numbers that fit, and what a term row needs to be in shape.
-use Rattle.std.proofs.Common.{◌≡◌, ℕ, zero, suc, ◌+◌, ◌<◌, ◌≤◌, Bool, true, false, cond, ◌&&◌, eqb, ltb, leb, List, [], ◌∷◌, length, set, Some, codes, sym, refl, subst, add-one, arith}
+use Rattle.std.proofs.Common.{◌≡◌, ℕ, zero, suc, ◌+◌, ◌<◌, ◌≤◌, Bool, true, false, cond, ◌&&◌, eqb, ltb, leb, List, [], ◌∷◌, length, set, Some, None, codes, Option, sym, refl, subst, add-one, arith}
 use Rattle.std.proofs.lemmas.Bool.{and_parts, and_from, ltb-true, lt-ltb, le-leb}
 use Rattle.std.specs.Str.{bytes_eq}
 use Rattle.words.specs.declared.token.Span.{Span}
@@ -9,11 +9,11 @@ use Rattle.rows.specs.declared.term.TermRow.{TermRow}
 use Rattle.shape.specs.Numbers.{numbers_fit, one_to_four}
 use Rattle.shape.specs.Terms.{part_ok, parts_ok, made_ok, derived_ok, term_ok}
 use Rattle.scanning.specs.declared.vocabulary.Head.{Head}
-use Rattle.scanning.specs.declared.vocabulary.Head.TheVariants.{Name, KeyOf, Under, Reserved}
+use Rattle.scanning.specs.declared.vocabulary.Head.TheVariants.{Name, KeyOf, Under}
 use Rattle.scanning.specs.Spelling.{bytes_of}
 use Rattle.scanning.specs.Vocabulary.{reserved, head}
 use Rattle.scanning.specs.Names.{slot_of}
-use Rattle.reader.specs.declared.tables.Parts.{Parts}
+use Rattle.reader.specs.declared.parts.Parts.{Parts}
 use Rattle.reader.specs.Lists.{none}
 use Rattle.reader.specs.Terms.{slot_row, composite}
 use Rattle.reader.proofs.Good.{in_shape}
@@ -63,26 +63,26 @@ made_fits kind k ps key h l some few q =
     (and_from (numbers_fit k ps.count ps.at) (numbers_fit 2048 ps.count ps.at) q (fit_more k 2048 (omega arith) ps.count ps.at q)))
 
 -- the kinds that a term's first word says: a derived key has a key only, and the others have parts
-abbrev pub Kinds : Head → Type 0
-Kinds Name = Unit {0}
-Kinds (KeyOf k) = (c j : ℕ) (t : TermRow) → term_ok c j t k ≡ derived_ok j t
-Kinds (Under k) = (c j : ℕ) (t : TermRow) → term_ok c j t k ≡ made_ok j t
-Kinds Reserved = Unit {0}
+abbrev pub Kinds : Option Head → Type 0
+Kinds (Some Name) = Unit {0}
+Kinds (Some (KeyOf k)) = (c j : ℕ) (t : TermRow) → term_ok c j t k ≡ derived_ok j t
+Kinds (Some (Under k)) = (c j : ℕ) (t : TermRow) → term_ok c j t k ≡ made_ok j t
+Kinds None = Unit {0}
 
-either_head : (b : Bool) (x y : Head) → Kinds x → Kinds y → Kinds (cond b x y)
+either_head : (b : Bool) (x y : Option Head) → Kinds x → Kinds y → Kinds (cond b x y)
 either_head true x y p q = p
 either_head false x y p q = q
 
 pub kinds_fit : (w : List ℕ) → Kinds (head w)
 kinds_fit w =
-    let other = cond (reserved w) Reserved Name in
-    let sign = cond (bytes_eq w (codes "sign")) (Under Sign) other in
-    let aenc = cond (bytes_eq w (codes "aenc")) (Under Aenc) sign in
-    let senc = cond (bytes_eq w (codes "senc")) (Under Senc) aenc in
-    let vk = cond (bytes_eq w (codes "vk")) (KeyOf Vk) senc in
-    either_head (bytes_eq w (codes "ek")) (KeyOf Ek) vk (λ c j t. refl)
-    (either_head (bytes_eq w (codes "vk")) (KeyOf Vk) senc (λ c j t. refl)
-    (either_head (bytes_eq w (codes "senc")) (Under Senc) aenc (λ c j t. refl)
-    (either_head (bytes_eq w (codes "aenc")) (Under Aenc) sign (λ c j t. refl)
-    (either_head (bytes_eq w (codes "sign")) (Under Sign) other (λ c j t. refl)
-    (either_head (reserved w) Reserved Name tt tt)))))
+    let other = cond (reserved w) None (Some Name) in
+    let sign = cond (bytes_eq w (codes "sign")) (Some (Under Sign)) other in
+    let aenc = cond (bytes_eq w (codes "aenc")) (Some (Under Aenc)) sign in
+    let senc = cond (bytes_eq w (codes "senc")) (Some (Under Senc)) aenc in
+    let vk = cond (bytes_eq w (codes "vk")) (Some (KeyOf Vk)) senc in
+    either_head (bytes_eq w (codes "ek")) (Some (KeyOf Ek)) vk (λ c j t. refl)
+    (either_head (bytes_eq w (codes "vk")) (Some (KeyOf Vk)) senc (λ c j t. refl)
+    (either_head (bytes_eq w (codes "senc")) (Some (Under Senc)) aenc (λ c j t. refl)
+    (either_head (bytes_eq w (codes "aenc")) (Some (Under Aenc)) sign (λ c j t. refl)
+    (either_head (bytes_eq w (codes "sign")) (Some (Under Sign)) other (λ c j t. refl)
+    (either_head (reserved w) None (Some Name) tt tt)))))

@@ -10,7 +10,8 @@ use Rattle.rows.specs.Processes.{no_process}
 use Rattle.rows.specs.Terms.{no_term}
 use Rattle.shape.specs.Terms.{term_ok}
 use Rattle.scanning.specs.declared.fault.ListingFault.{ListingFault}
-use Rattle.reader.specs.Cursor.{Cursor, moved, with_types, with_terms, with_rows, one_more_row}
+use Rattle.scanning.specs.declared.type_words.TypeWord.{TypeWord}
+use Rattle.reader.specs.Cursor.{Cursor, moved, with_word, with_types, with_terms, with_rows, one_more_row}
 use Rattle.reader.specs.Rows.{noted, opened}
 use Rattle.reader.specs.Whole.{Sizes}
 use Rattle.words.proofs.Bounds.{ok_same, err_ok}
@@ -47,23 +48,35 @@ Reading before rows terms used run = Unit {0}
 Reading after rows terms used run = Unit {0}
 Reading (within i c b) rows terms used run = Present i c b rows terms used run
 
+-- the types: the table keeps its length, and `least` rows or more are in use
+pub record TypesFit (n least : ℕ) (types : List TypeRow) (typed : ℕ) : Type 0 where
+  pub long : length types ≡ n
+  pub limit : typed ≤ 64
+  pub fit : typed ≤ n
+  pub low : least ≤ typed
+
+-- the process rows and their places, which rise with the row
+pub record RowsFit (n : Sizes) (rows : List ProcessRow) (places : List ℕ) (filled : ℕ) : Type 0 where
+  pub long : length rows ≡ n.processes
+  pub noted : length places ≡ n.places
+  pub limit : filled ≤ 512
+  pub fit : filled ≤ n.processes
+  pub noted_fit : filled ≤ n.places
+  pub rises : (i : ℕ) → i + 1 < filled → get_or places i 0 < get_or places (i + 1) 0
+
+pub record TermsFit (n : ℕ) (terms : List TermRow) (used : ℕ) : Type 0 where
+  pub long : length terms ≡ n
+  pub limit : used ≤ 2048
+  pub fit : used ≤ n
+
 pub record Good (text : List ℕ) (n : Sizes) (low-types : ℕ) (stage : Stage) (s : Cursor) : Type 0 where
-  pub at_in : s.at ≤ length text
-  pub types_long : length s.types ≡ n.types
-  pub rows_long : length s.rows ≡ n.processes
-  pub terms_long : length s.terms ≡ n.terms
-  pub places_long : length s.places ≡ n.places
-  pub types_limit : s.typed ≤ 64
-  pub types_in : s.typed ≤ n.types
-  pub rows_limit : s.filled ≤ 512
-  pub rows_in : s.filled ≤ n.processes
-  pub places_in : s.filled ≤ n.places
-  pub terms_limit : s.used ≤ 2048
-  pub terms_in : s.used ≤ n.terms
-  pub types_low : low-types ≤ s.typed
+  pub text_is : s.text ≡ text
+  pub at_in : s.at ≤ length s.text
+  pub types : TypesFit n.types low-types s.types s.typed
+  pub rows : RowsFit n s.rows s.places s.filled
+  pub terms : TermsFit n.terms s.terms s.used
   pub rows_low : low_rows stage ≤ s.filled
   pub below : (i : ℕ) → i < s.filled → get_or s.places i 0 < s.at
-  pub rises : (i : ℕ) → i + 1 < s.filled → get_or s.places i 0 < get_or s.places (i + 1) 0
   pub runs : (j : ℕ) → Run s.terms s.used (get_or s.rows j no_process)
   pub present : Reading stage s.rows s.terms s.used s.run
 
@@ -81,25 +94,16 @@ tested true x e y h = (refl, h)
 tested false x e y h = absurd (err_ok e y h)
 
 module _ (text : List ℕ) (n : Sizes) (lt : ℕ) (lf : Stage) where
-  pub good_moved : (s : Cursor) → Good text n lt lf s → (at : ℕ) → s.at ≤ at → at ≤ length text → Good text n lt lf (moved s at)
+  pub good_moved : (s : Cursor) → Good text n lt lf s → (at : ℕ) → s.at ≤ at → at ≤ length s.text → Good text n lt lf (moved s at)
   good_moved s g at h u =
       record {
+        text_is = g.text_is;
         at_in = u;
-        types_long = g.types_long;
-        rows_long = g.rows_long;
-        terms_long = g.terms_long;
-        places_long = g.places_long;
-        types_limit = g.types_limit;
-        types_in = g.types_in;
-        rows_limit = g.rows_limit;
-        rows_in = g.rows_in;
-        places_in = g.places_in;
-        terms_limit = g.terms_limit;
-        terms_in = g.terms_in;
-        types_low = g.types_low;
+        types = g.types;
+        rows = g.rows;
+        terms = g.terms;
         rows_low = g.rows_low;
         below = λ i k. omega (arith, g.below i k);
-        rises = g.rises;
         runs = g.runs;
         present = g.present;
       }
@@ -107,22 +111,27 @@ module _ (text : List ℕ) (n : Sizes) (lt : ℕ) (lf : Stage) where
   pub good_types : (s : Cursor) → Good text n lt lf s → (t : TypeRow) → s.typed < 64 → s.typed < length s.types → Good text n lt lf (with_types s (set s.types s.typed t) (s.typed + 1))
   good_types s g t h u =
       record {
+        text_is = g.text_is;
         at_in = g.at_in;
-        types_long = simp length-set g.types_long;
-        rows_long = g.rows_long;
-        terms_long = g.terms_long;
-        places_long = g.places_long;
-        types_limit = omega arith;
-        types_in = omega (arith, g.types_long);
-        rows_limit = g.rows_limit;
-        rows_in = g.rows_in;
-        places_in = g.places_in;
-        terms_limit = g.terms_limit;
-        terms_in = g.terms_in;
-        types_low = omega (arith, g.types_low);
+        types = record { long = simp length-set g.types.long; limit = omega arith; fit = omega (arith, g.types.long); low = omega (arith, g.types.low) };
+        rows = g.rows;
+        terms = g.terms;
         rows_low = g.rows_low;
         below = g.below;
-        rises = g.rises;
+        runs = g.runs;
+        present = g.present;
+      }
+
+  pub good_word : (s : Cursor) → Good text n lt lf s → (w : TypeWord) → Good text n lt lf (with_word w s)
+  good_word s g w =
+      record {
+        text_is = g.text_is;
+        at_in = g.at_in;
+        types = g.types;
+        rows = g.rows;
+        terms = g.terms;
+        rows_low = g.rows_low;
+        below = g.below;
         runs = g.runs;
         present = g.present;
       }
@@ -131,22 +140,13 @@ module _ (text : List ℕ) (n : Sizes) (lt : ℕ) (lf : Stage) where
   pub good_stage : (lg : Stage) (s : Cursor) → Good text n lt lf s → low_rows lg ≤ s.filled → Reading lg s.rows s.terms s.used s.run → Good text n lt lg s
   good_stage lg s g h q =
       record {
+        text_is = g.text_is;
         at_in = g.at_in;
-        types_long = g.types_long;
-        rows_long = g.rows_long;
-        terms_long = g.terms_long;
-        places_long = g.places_long;
-        types_limit = g.types_limit;
-        types_in = g.types_in;
-        rows_limit = g.rows_limit;
-        rows_in = g.rows_in;
-        places_in = g.places_in;
-        terms_limit = g.terms_limit;
-        terms_in = g.terms_in;
-        types_low = g.types_low;
+        types = g.types;
+        rows = g.rows;
+        terms = g.terms;
         rows_low = h;
         below = g.below;
-        rises = g.rises;
         runs = g.runs;
         present = q;
       }
@@ -219,22 +219,13 @@ module _ (text : List ℕ) (n : Sizes) (lt : ℕ) where
   pub good_put : (i c b : ℕ) (s : Cursor) → Good text n lt (within i c b) s → (t : TermRow) → s.used < 2048 → s.used < length s.terms → in_shape c (s.used - s.run) t ≡ true → Good text n lt (within i c (max b (s.used - s.run + 1))) (with_terms s (set s.terms s.used t) (s.used + 1))
   good_put i c b s g t h u ok =
       record {
+        text_is = g.text_is;
         at_in = g.at_in;
-        types_long = g.types_long;
-        rows_long = g.rows_long;
-        terms_long = simp length-set g.terms_long;
-        places_long = g.places_long;
-        types_limit = g.types_limit;
-        types_in = g.types_in;
-        rows_limit = g.rows_limit;
-        rows_in = g.rows_in;
-        places_in = g.places_in;
-        terms_limit = omega arith;
-        terms_in = omega (arith, g.terms_long);
-        types_low = g.types_low;
+        types = g.types;
+        rows = g.rows;
+        terms = record { long = simp length-set g.terms.long; limit = omega arith; fit = omega (arith, g.terms.long) };
         rows_low = g.rows_low;
         below = g.below;
-        rises = g.rises;
         runs = λ j. run_kept s.terms s.used t u (get_or s.rows j no_process) (g.runs j);
         present = present_more s.terms s.used t u i c b s.rows s.run g.present ok;
       }
@@ -243,22 +234,13 @@ module _ (text : List ℕ) (n : Sizes) (lt : ℕ) where
   pub good_rows : (lf : Stage) (s : Cursor) → Good text n lt lf s → (i : ℕ) (p : ProcessRow) → p.first ≡ (get_or s.rows i no_process).first → p.slots ≡ (get_or s.rows i no_process).slots → Run s.terms s.used p → Good text n lt lf (with_rows s (set s.rows i p))
   good_rows lf s g i p a b r =
       record {
+        text_is = g.text_is;
         at_in = g.at_in;
-        types_long = g.types_long;
-        rows_long = simp length-set g.rows_long;
-        terms_long = g.terms_long;
-        places_long = g.places_long;
-        types_limit = g.types_limit;
-        types_in = g.types_in;
-        rows_limit = g.rows_limit;
-        rows_in = g.rows_in;
-        places_in = g.places_in;
-        terms_limit = g.terms_limit;
-        terms_in = g.terms_in;
-        types_low = g.types_low;
+        types = g.types;
+        rows = record { long = simp length-set g.rows.long; noted = g.rows.noted; limit = g.rows.limit; fit = g.rows.fit; noted_fit = g.rows.noted_fit; rises = g.rows.rises };
+        terms = g.terms;
         rows_low = g.rows_low;
         below = g.below;
-        rises = g.rises;
         runs = λ j. either_row s.rows i p (Run s.terms s.used) j r (g.runs j);
         present = reading_rows s.rows i p lf s.terms s.used s.run a b g.present;
       }
@@ -271,7 +253,7 @@ module _ (text : List ℕ) (n : Sizes) (lt : ℕ) (short : length text ≤ 32768
     here : get_or put_places s.filled 0 ≡ place
     unfolding put_places
     here =
-        let m : noted place ≡ place = omega (arith, f.before, g.at_in) in
+        let m : noted place ≡ place = omega (arith, f.before, g.at_in, ap length g.text_is) in
         get_or-set_same s.places s.filled (noted place) 0 room ∙ m
 
     old : (i : ℕ) → i < s.filled → get_or put_places i 0 ≡ get_or s.places i 0
@@ -290,7 +272,7 @@ module _ (text : List ℕ) (n : Sizes) (lt : ℕ) (short : length text ≤ 32768
         let l : i < s.filled = omega arith in
         ⊎_elim
         (λ (e : i + 1 ≡ s.filled). let q : get_or put_places (i + 1) 0 ≡ place = ap (λ k. get_or put_places k 0) e ∙ here in omega (arith, old i l, f.after i l))
-        (λ (ne : i + 1 ≡ s.filled → ⊥). let m : i + 1 < s.filled = omega arith in omega (arith, old i l, old (i + 1) m, g.rises i m))
+        (λ (ne : i + 1 ≡ s.filled → ⊥). let m : i + 1 < s.filled = omega arith in omega (arith, old i l, old (i + 1) m, g.rows.rises i m))
         (cases_eq (i + 1) s.filled)
 
     pub good_opened : (kind : ProcessKind) (slots : ℕ) → s.filled < 512 → s.filled < length s.rows
@@ -300,22 +282,13 @@ module _ (text : List ℕ) (n : Sizes) (lt : ℕ) (short : length text ≤ 32768
         let p = opened kind slots s.filled s.used in
         let row_is : get_or (set s.rows s.filled p) s.filled no_process ≡ p = get_or-set_same s.rows s.filled p no_process u in
         record {
+          text_is = g.text_is;
           at_in = g.at_in;
-          types_long = g.types_long;
-          rows_long = simp length-set g.rows_long;
-          terms_long = g.terms_long;
-          places_long = simp length-set g.places_long;
-          types_limit = g.types_limit;
-          types_in = g.types_in;
-          rows_limit = omega arith;
-          rows_in = omega (arith, g.rows_long);
-          places_in = omega (arith, g.places_long);
-          terms_limit = g.terms_limit;
-          terms_in = g.terms_in;
-          types_low = g.types_low;
+          types = g.types;
+          rows = record { long = simp length-set g.rows.long; noted = simp length-set g.rows.noted; limit = omega arith; fit = omega (arith, g.rows.long); noted_fit = omega (arith, g.rows.noted); rises = now_rises };
+          terms = g.terms;
           rows_low = omega arith;
           below = now_below;
-          rises = now_rises;
           runs = λ j. either_row s.rows s.filled p (Run s.terms s.used) j (record { inside = omega arith; shaped = λ k z. absurd (omega arith) }) (g.runs j);
           present = record { first_is = ap (λ (x : ProcessRow). x.first) row_is; slots_are = ap (λ (x : ProcessRow). x.slots) row_is; long = omega arith; shaped = λ k z. absurd (omega arith) };
         }

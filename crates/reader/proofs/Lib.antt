@@ -3,7 +3,8 @@ pub mod Series
 pub mod Unfold
 pub mod Declared
 pub mod Deep
-pub mod Cleared
+pub mod Placed
+pub mod Zeros
 pub mod Told
 pub mod Triple
 pub mod Good

@@ -1,5 +1,5 @@
 -- What holds of the state before a reading, and of an answer and the state after it.
-use Rattle.std.proofs.Common.{◌≡◌, ℕ, zero, suc, Bool, true, false, cond, List, Ok, Err, Result, refl, subst}
+use Rattle.std.proofs.Common.{◌≡◌, ℕ, zero, suc, Bool, true, false, cond, Ok, Err, Result, refl, subst}
 use Rattle.words.specs.declared.token.Mark.{Mark}
 use Rattle.words.proofs.Bounds.{ok_same, err_ok}
 use Rattle.scanning.specs.declared.fault.ListingFault.{ListingFault}
@@ -35,18 +35,22 @@ onward q (Err f) p b t h = absurd (err_ok f (b, t) h)
 pub from_then : {A B : Type 0} {P : Cursor → Type 0} {Q : A → Cursor → Type 0} {R : B → Cursor → Type 0} {m : Reads A} {k : A → Reads B} → From P m Q → ((a : A) → From (Q a) (k a) R) → From P (◌>>=◌ m k) R
 from_then {m = m} p q = record { run = λ s x b t h. onward q (m s) (λ a u e. p.run s x a u e) b t h }
 
+-- what the state says, which stays
+pub from_asked : {A : Type 0} {P : Cursor → Type 0} (f : Cursor → A) → From P (λ s. Ok (f s, s)) (λ a. P)
+from_asked {P = P} f = record { run = λ s p b t h. given (λ a. P) (f s) b s t h p }
+
 -- less is asked of the answer
 pub from_less : {A : Type 0} {P : Cursor → Type 0} {Q R : A → Cursor → Type 0} {m : Reads A} → From P m Q → ((a : A) (s : Cursor) → Q a s → R a s) → From P m R
 from_less p f = record { run = λ s x a t h. f a t (p.run s x a t h) }
 
 -- a list of items: what holds of the list so far, where so many more may come
-module _ {A L : Type 0} (add : L → A → L) (item : L → Reads A) (over : L → Reads L) (text : List ℕ) (stop : Mark) (P : ℕ → L → Cursor → Type 0) (Q : L → Cursor → Type 0)
+module _ {A L : Type 0} (add : L → A → L) (item : L → Reads A) (over : L → Reads L) (stop : Mark) (P : ℕ → L → Cursor → Type 0) (Q : L → Cursor → Type 0)
     (each : (room : ℕ) (xs : L) → From (P (suc room) xs) (item xs) (λ x. P room (add xs x)))
-    (between : (room : ℕ) (xs : L) → From (P room xs) (comma text stop) (λ more. P room xs))
+    (between : (room : ℕ) (xs : L) → From (P room xs) (comma stop) (λ more. P room xs))
     (last : (room : ℕ) (xs : L) (x : A) (s : Cursor) → P room (add xs x) s → Q (add xs x) s)
     (past : (xs : L) → From (P zero xs) (over xs) Q)
   where
-    pub from_series : (room : ℕ) (xs : L) → From (P room xs) (series add item over text stop room xs) Q
+    pub from_series : (room : ℕ) (xs : L) → From (P room xs) (series add item over stop room xs) Q
     unfolding series
     from_series zero xs = past xs
     from_series (suc room) xs =

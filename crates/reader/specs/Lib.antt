@@ -1,5 +1,6 @@
 pub mod Cursor
 pub mod Tokens
+pub mod Appended
 pub mod Lists
 pub mod Terms
 pub mod Types

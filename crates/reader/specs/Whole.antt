@@ -1,5 +1,5 @@
 -- A whole listing.
-use Rattle.std.specs.Prelude.{◌≡◌, ℕ, cond, List, [], length, replicate, Ok, Err, Result, nat_lt}
+use Rattle.std.specs.Prelude.{◌≡◌, ℕ, ◌-◌, cond, List, [], length, replicate, Ok, Err, Result, nat_lt}
 use Rattle.rows.specs.declared.types.TypeRow.{TypeRow}
 use Rattle.rows.specs.declared.process.ProcessKind.TheVariants.{Stop}
 use Rattle.rows.specs.declared.process.ProcessRow.{ProcessRow}
@@ -7,7 +7,6 @@ use Rattle.rows.specs.declared.term.TermRow.{TermRow}
 use Rattle.rows.specs.Types.{plain}
 use Rattle.scanning.specs.declared.fault.ListingFault.{ListingFault}
 use Rattle.scanning.specs.declared.fault.ListingFault.TheVariants.{TooLong}
-use Rattle.scanning.specs.declared.type_words.TypeWord.{TypeWord}
 use Rattle.reader.specs.declared.whole.Counts.{Counts}
 use Rattle.reader.specs.Cursor.{Cursor, Reads, ◌>>=◌}
 use Rattle.reader.specs.Tokens.{ending}
@@ -27,27 +26,31 @@ zero_process = record { kind = Stop; slots = 0; «end» = 0; ty = 0; count = 0; 
 abbrev pub zero_term : TermRow
 zero_term = slot_row 0
 
+-- the declared types, where there is room for 2,184 words in all
+abbrev pub all_declared : Reads (Unit {0})
+all_declared s = declarations (2184 - length s.words) s
+
 -- the open level in row 0, and the declared types
-unfoldable pub types_read : ℕ → List ℕ → Reads (List TypeWord)
-types_read level text = do
+unfoldable pub types_read : ℕ → Reads (Unit {0})
+types_read level = do
   r ← share (plain level) 0
-  declarations 2184 text []
+  all_declared
 
 abbrev pub counts : Reads Counts
 counts s = Ok (record { types = s.typed; processes = s.filled; terms = s.used }, s)
 
 -- the free names, one process, and the end of the text
-unfoldable pub body : List ℕ → List TypeWord → Reads Counts
-body text types = do
-  sc ← header text
-  p ← process 512 text types 32 sc
-  e ← ending text
+unfoldable pub body : Reads Counts
+body = do
+  sc ← header
+  p ← process 512 32 sc
+  e ← ending
   counts
 
-unfoldable pub whole : ℕ → List ℕ → Reads Counts
-whole level text = do
-  types ← types_read level text
-  body text types
+unfoldable pub whole : ℕ → Reads Counts
+whole level = do
+  u ← types_read level
+  body
 
 -- the tables of a listing, and how many rows of each are in use
 pub record Tables : Type 0 where
@@ -67,19 +70,19 @@ pub record Sizes : Type 0 where
 abbrev pub sizes_of : List TypeRow → List ProcessRow → List TermRow → List ℕ → Sizes
 sizes_of types processes terms places = record { types = length types; processes = length processes; terms = length terms; places = length places }
 
--- nothing is read, and no row is in use
-abbrev pub started : List TypeRow → List ProcessRow → List TermRow → List ℕ → Cursor
-started types processes terms places = record { at = 0; types = types; typed = 0; rows = processes; places = places; filled = 0; terms = terms; used = 0; run = 0 }
+-- nothing of the text is read, and no row is in use
+abbrev pub started : List ℕ → List TypeRow → List ProcessRow → List TermRow → List ℕ → Cursor
+started text types processes terms places = record { text = text; words = []; at = 0; types = types; typed = 0; rows = processes; places = places; filled = 0; terms = terms; used = 0; run = 0 }
 
-abbrev pub empty : Sizes → Cursor
-empty n = started (replicate n.types zero_type) (replicate n.processes zero_process) (replicate n.terms zero_term) (replicate n.places 0)
+abbrev pub empty : List ℕ → Sizes → Cursor
+empty text n = started text (replicate n.types zero_type) (replicate n.processes zero_process) (replicate n.terms zero_term) (replicate n.places 0)
 
 abbrev pub tables : Result (Counts × Cursor) ListingFault → Result Tables ListingFault
 tables m = elim m [ Err e ↦ Err e | Ok p ↦ Ok (record { counts = p.0; types = p.1.types; processes = p.1.rows; terms = p.1.terms; places = p.1.places }) ]
 
 -- a text as a listing, where the open level has the number `level` and the tables the sizes n
 unfoldable pub listing : List ℕ → ℕ → Sizes → Result Tables ListingFault
-listing text level n = cond (nat_lt 32768 (length text)) (Err TooLong) (tables (whole level text (empty n)))
+listing text level n = cond (nat_lt 32768 (length text)) (Err TooLong) (tables (whole level (empty text n)))
 
 -- that a function gives what a reading says, and leaves its tables
 abbrev pub Told : Result Tables ListingFault → Result Counts ListingFault → List TypeRow → List ProcessRow → List TermRow → List ℕ → Type 0

@@ -1,26 +1,18 @@
-// How processes begin: each up to where the next process stands.
+// What processes begin with, after the first token: each up to where the next process stands.
 ghost use Rattle.std.specs.Prelude.{◌≡◌, ℕ, ◌+◌, ◌<◌, ◌≤◌, IfOk, OnOk};
-ghost use Rattle.scanning.specs.Names.{scoped, declared};
+ghost use Rattle.arrayvec.specs.ArrayVec.{array_vec_len};
+ghost use Rattle.scanning.specs.Names.{scoped};
 ghost use Rattle.reader.specs.Cursor.{state, Gives, Same};
-ghost use Rattle.reader.specs.Heads.{Roomy, typed, new_head, message, sent, out_head, in_head, opened_names, opening_key, opening, opening_head};
-ghost use Rattle.reader.specs.Names.{no_names, also};
-ghost use Rattle.reader.specs.Heads.{again_head, both_head, equation, branching, if_head};
+ghost use Rattle.reader.specs.Heads.{typed, new_line, message, sent, out_line, in_line, opened_names, opening_key, opening, opening_line, equation, if_line};
 
 use crate::names::Names;
-use crate::tables::{Parts, Reader};
-use rows::ProcessKind;
-use scanning::{ListingFault, Scope, TypeWords};
-use words::{Mark, Span, Token};
+use crate::parts::Parts;
+use crate::tables::Reader;
+use scanning::{ListingFault, Scope};
+use words::Mark;
 
 // The most brackets around a term.
 const DEEP: u16 = 32;
-
-// The row of a prefix, and the names that it binds.
-#[derive(Clone, Copy)]
-pub(crate) struct Prefix {
-    pub(crate) row: u16,
-    pub(crate) names: Names,
-}
 
 // What an out sends, and where.
 #[derive(Clone, Copy)]
@@ -30,7 +22,7 @@ pub(crate) struct Message {
 }
 
 // What an opening opens, with which key, and the names that it binds.
-#[derive(Clone, Copy)]
+#[derive(Drop)]
 pub(crate) struct Opening {
     pub(crate) message: u16,
     pub(crate) names: Names,
@@ -44,157 +36,113 @@ pub(crate) struct Equation {
     pub(crate) right: u16,
 }
 
-// The channel and then the parts.
-fn sent(m: Message) -> [u16; 5]
-    ensures { result ≡ sent m }
-{
-    [
-        m.channel,
-        m.parts.at[0],
-        m.parts.at[1],
-        m.parts.at[2],
-        m.parts.at[3],
-    ]
-}
-
-fn no_names() -> Names
-    ensures { result ≡ no_names }
-{
-    Names {
-        count: 0,
-        at: [Span {
-            token: Token::End,
-            start: 0,
-            end: 0,
-        }; 4],
+impl Message {
+    // The channel and then the parts.
+    fn operands(self) -> [u16; 5]
+        ensures { result ≡ sent self }
+    {
+        let [a, b, c, d] = self.parts.at;
+        [self.channel, a, b, c, d]
     }
-}
-
-fn one_name(name: Span) -> Names
-    ensures { result ≡ also no_names name }
-{
-    let mut names = no_names();
-    names.at[0] = name;
-    names.count = 1;
-    names
 }
 
 impl Reader<'_> {
     // `: s .`. Answers the type's row.
-    fn typed(&mut self, text: &[u8], types: &TypeWords) -> Result<u16, ListingFault>
-        ensures gives { Gives (typed text.now (declared types.now) (state self.old)) result (state self.new) }
+    #[tactic(auto, unfolding(crate::specs::Heads::typed))]
+    fn typed(&mut self) -> Result<u16, ListingFault>
+        ensures gives { Gives (typed (state self.old)) result (state self.new) }
         ensures same { Same self.new self.old }
     {
-        self.mark(text, Mark::Colon)?;
-        let found = self.type_named(text, types)?;
-        self.mark(text, Mark::Dot)?;
+        self.mark(Mark::Colon)?;
+        let found = self.type_named()?;
+        self.mark(Mark::Dot)?;
         Ok(found.row)
     }
 
-    // `new a : s .`
-    pub(crate) fn new_head(
-        &mut self,
-        text: &[u8],
-        types: &TypeWords,
-        scope: &Scope,
-        left: u16,
-        place: usize,
-    ) -> Result<Prefix, ListingFault>
-        ensures gives { Gives (new_head text.now (declared types.now) (scoped scope.now) left place (state self.old)) result (state self.new) }
+    // `a : s .` after `new`. Answers the name.
+    #[tactic(auto, unfolding(crate::specs::Heads::new_line))]
+    pub(crate) fn new_line(&mut self, scope: &Scope, row: u16) -> Result<Names, ListingFault>
+        ensures gives { Gives (new_line (scoped scope.now) row (state self.old)) result (state self.new) }
         ensures same { Same self.new self.old }
-        ensures roomy { IfOk result (λ h. Roomy left scope.now.count h.names.count) }
+        ensures room { IfOk result (λ ns. scope.now.count + array_vec_len ns ≤ 32) }
     {
-        let row = self.open_row(left, ProcessKind::New, scope.count, place)?;
-        let name = self.new_name(text, scope.count)?;
-        let ty = self.typed(text, types)?;
+        let name = self.new_name(scope.count)?;
+        let ty = self.typed()?;
         self.fill_row(row, ty, 0, [0; 5]);
-        Ok(Prefix {
-            row,
-            names: one_name(name),
-        })
+        let mut names = Names::new();
+        names.push(name);
+        Ok(names)
     }
 
     // `M (M, N)`
-    fn message(&mut self, text: &[u8], scope: &Scope) -> Result<Message, ListingFault>
-        ensures gives { Gives (message text.now (scoped scope.now).names (state self.old)) result (state self.new) }
+    #[tactic(auto, unfolding(crate::specs::Heads::message))]
+    fn message(&mut self, scope: &Scope) -> Result<Message, ListingFault>
+        ensures gives { Gives (message (scoped scope.now).names (state self.old)) result (state self.new) }
         ensures same { Same self.new self.old }
     {
-        let channel = self.term(text, scope, DEEP)?;
-        let inner = self.bracket(text, DEEP)?;
-        let parts = self.list(text, scope, inner, Mark::Close)?;
+        let channel = self.term(scope, DEEP)?;
+        let inner = self.bracket(DEEP)?;
+        let parts = self.list(scope, inner, Mark::Close)?;
         Ok(Message { channel, parts })
     }
 
-    // `out M (M, N) .`
-    pub(crate) fn out_head(
-        &mut self,
-        text: &[u8],
-        scope: &Scope,
-        left: u16,
-        place: usize,
-    ) -> Result<Prefix, ListingFault>
-        ensures gives { Gives (out_head text.now (scoped scope.now) left place (state self.old)) result (state self.new) }
+    // `M (M, N) .` after `out`
+    #[tactic(auto, unfolding(crate::specs::Heads::out_line))]
+    pub(crate) fn out_line(&mut self, scope: &Scope, row: u16) -> Result<(), ListingFault>
+        ensures gives { Gives (out_line (scoped scope.now).names row (state self.old)) result (state self.new) }
         ensures same { Same self.new self.old }
-        ensures roomy { IfOk result (λ h. Roomy left scope.now.count h.names.count) }
     {
-        let row = self.open_row(left, ProcessKind::Out, scope.count, place)?;
-        let message = self.message(text, scope)?;
-        self.fill_row(row, 0, message.parts.count, sent(message));
-        self.mark(text, Mark::Dot)?;
-        Ok(Prefix {
-            row,
-            names: no_names(),
-        })
+        let message = self.message(scope)?;
+        self.fill_row(row, 0, message.parts.count, message.operands());
+        self.mark(Mark::Dot)?;
+        Ok(())
     }
 
-    // `in M (a, b) .`
-    pub(crate) fn in_head(
-        &mut self,
-        text: &[u8],
-        scope: &Scope,
-        left: u16,
-        place: usize,
-    ) -> Result<Prefix, ListingFault>
-        ensures gives { Gives (in_head text.now (scoped scope.now) left place (state self.old)) result (state self.new) }
+    // `M (a, b) .` after `in`. Answers the variables.
+    #[tactic(auto, unfolding(crate::specs::Heads::in_line))]
+    pub(crate) fn in_line(&mut self, scope: &Scope, row: u16) -> Result<Names, ListingFault>
+        ensures gives { Gives (in_line (scoped scope.now) row (state self.old)) result (state self.new) }
         ensures same { Same self.new self.old }
-        ensures roomy { IfOk result (λ h. Roomy left scope.now.count h.names.count) }
+        ensures room { IfOk result (λ ns. scope.now.count + array_vec_len ns ≤ 32) }
     {
-        let row = self.open_row(left, ProcessKind::In, scope.count, place)?;
-        let channel = self.term(text, scope, DEEP)?;
-        let names = self.variables(text, scope)?;
-        self.fill_row(row, 0, names.count, [channel, 0, 0, 0, 0]);
-        self.mark(text, Mark::Dot)?;
-        Ok(Prefix { row, names })
+        let channel = self.term(scope, DEEP)?;
+        let names = self.variables(scope)?;
+        self.fill_row(row, 0, names.len() as u16, [channel, 0, 0, 0, 0]);
+        self.mark(Mark::Dot)?;
+        Ok(names)
     }
 
     // `as (a, b)`
-    fn opened_names(&mut self, text: &[u8], scope: &Scope) -> Result<Names, ListingFault>
-        ensures gives { Gives (opened_names text.now scope.now.count (state self.old)) result (state self.new) }
+    #[tactic(auto, unfolding(crate::specs::Heads::opened_names))]
+    fn opened_names(&mut self, scope: &Scope) -> Result<Names, ListingFault>
+        ensures gives { Gives (opened_names scope.now.count (state self.old)) result (state self.new) }
         ensures same { Same self.new self.old }
-        ensures few { IfOk result (λ ns. (ns.count ≤ 4) × (scope.now.count + ns.count ≤ 32)) }
+        ensures room { IfOk result (λ ns. scope.now.count + array_vec_len ns ≤ 32) }
     {
-        self.keyword(text, b"as")?;
-        self.variables(text, scope)
+        self.keyword(b"as")?;
+        self.variables(scope)
     }
 
     // `with K`
-    fn opening_key(&mut self, text: &[u8], scope: &Scope) -> Result<u16, ListingFault>
-        ensures gives { Gives (opening_key text.now (scoped scope.now).names (state self.old)) result (state self.new) }
+    #[tactic(auto, unfolding(crate::specs::Heads::opening_key))]
+    fn opening_key(&mut self, scope: &Scope) -> Result<u16, ListingFault>
+        ensures gives { Gives (opening_key (scoped scope.now).names (state self.old)) result (state self.new) }
         ensures same { Same self.new self.old }
     {
-        self.keyword(text, b"with")?;
-        self.term(text, scope, DEEP)
+        self.keyword(b"with")?;
+        self.term(scope, DEEP)
     }
 
     // `M as (a, b) with K`: the key is read in the scope outside.
-    fn opening(&mut self, text: &[u8], scope: &Scope) -> Result<Opening, ListingFault>
-        ensures gives { Gives (opening text.now (scoped scope.now) (state self.old)) result (state self.new) }
+    #[tactic(auto, unfolding(crate::specs::Heads::opening))]
+    fn opening(&mut self, scope: &Scope) -> Result<Opening, ListingFault>
+        ensures gives { Gives (opening (scoped scope.now) (state self.old)) result (state self.new) }
         ensures same { Same self.new self.old }
-        ensures few { IfOk result (λ o. (o.names.count ≤ 4) × (scope.now.count + o.names.count ≤ 32)) }
+        ensures room { IfOk result (λ o. scope.now.count + array_vec_len o.names ≤ 32) }
     {
-        let message = self.term(text, scope, DEEP)?;
-        let names = self.opened_names(text, scope)?;
-        let key = self.opening_key(text, scope)?;
+        let message = self.term(scope, DEEP)?;
+        let names = self.opened_names(scope)?;
+        let key = self.opening_key(scope)?;
         Ok(Opening {
             message,
             names,
@@ -202,111 +150,50 @@ impl Reader<'_> {
         })
     }
 
-    // `sopen M as (a, b) with K .`, or another opening.
-    pub(crate) fn opening_head(
-        &mut self,
-        kind: ProcessKind,
-        text: &[u8],
-        scope: &Scope,
-        left: u16,
-        place: usize,
-    ) -> Result<Prefix, ListingFault>
-        ensures gives { Gives (opening_head kind text.now (scoped scope.now) left place (state self.old)) result (state self.new) }
+    // `M as (a, b) with K .` after `sopen`, or another opening. Answers the variables.
+    #[tactic(auto, unfolding(crate::specs::Heads::opening_line))]
+    pub(crate) fn opening_line(&mut self, scope: &Scope, row: u16) -> Result<Names, ListingFault>
+        ensures gives { Gives (opening_line (scoped scope.now) row (state self.old)) result (state self.new) }
         ensures same { Same self.new self.old }
-        ensures roomy { IfOk result (λ h. Roomy left scope.now.count h.names.count) }
+        ensures room { IfOk result (λ ns. scope.now.count + array_vec_len ns ≤ 32) }
     {
-        let row = self.open_row(left, kind, scope.count, place)?;
-        let opening = self.opening(text, scope)?;
-        self.fill_row(
-            row,
-            0,
-            opening.names.count,
-            [opening.message, opening.key, 0, 0, 0],
-        );
-        self.mark(text, Mark::Dot)?;
-        Ok(Prefix {
-            row,
-            names: opening.names,
-        })
-    }
-
-    // `!`
-    pub(crate) fn again_head(
-        &mut self,
-        scope: &Scope,
-        left: u16,
-        place: usize,
-    ) -> Result<Prefix, ListingFault>
-        ensures gives { Gives (again_head (scoped scope.now) left place (state self.old)) result (state self.new) }
-        ensures same { Same self.new self.old }
-        ensures roomy { IfOk result (λ h. Roomy left scope.now.count h.names.count) }
-    {
-        let row = self.open_row(left, ProcessKind::Again, scope.count, place)?;
-        Ok(Prefix {
-            row,
-            names: no_names(),
-        })
-    }
-
-    // `(`, where `allow` more brackets and branches may be opened.
-    pub(crate) fn both_head(
-        &mut self,
-        scope: &Scope,
-        allow: u16,
-        left: u16,
-        place: usize,
-    ) -> Result<u16, ListingFault>
-        ensures gives { Gives (both_head (scoped scope.now) allow left place (state self.old)) result (state self.new) }
-        ensures same { Same self.new self.old }
-        ensures some { OnOk result ((0 < left) × (0 < allow)) }
-    {
-        if allow == 0 {
-            return Err(ListingFault::Limit(place));
-        }
-        self.open_row(left, ProcessKind::Both, scope.count, place)
+        let opening = self.opening(scope)?;
+        let operands = [opening.message, opening.key, 0, 0, 0];
+        self.fill_row(row, 0, opening.names.len() as u16, operands);
+        self.mark(Mark::Dot)?;
+        Ok(opening.names)
     }
 
     // `M = N`
-    fn equation(&mut self, text: &[u8], scope: &Scope) -> Result<Equation, ListingFault>
-        ensures gives { Gives (equation text.now (scoped scope.now).names (state self.old)) result (state self.new) }
+    #[tactic(auto, unfolding(crate::specs::Heads::equation))]
+    fn equation(&mut self, scope: &Scope) -> Result<Equation, ListingFault>
+        ensures gives { Gives (equation (scoped scope.now).names (state self.old)) result (state self.new) }
         ensures same { Same self.new self.old }
     {
-        let left = self.term(text, scope, DEEP)?;
-        self.mark(text, Mark::Equals)?;
-        let right = self.term(text, scope, DEEP)?;
+        let left = self.term(scope, DEEP)?;
+        self.mark(Mark::Equals)?;
+        let right = self.term(scope, DEEP)?;
         Ok(Equation { left, right })
     }
 
-    // `then`
-    fn branching(&mut self, text: &[u8], allow: u16) -> Result<(), ListingFault>
-        ensures gives { Gives (branching text.now allow (state self.old)) result (state self.new) }
+    // `M = N then` after `if`, where `allow` more brackets and branches may be opened.
+    #[tactic(auto, unfolding(crate::specs::Heads::if_line))]
+    pub(crate) fn if_line(
+        &mut self,
+        scope: &Scope,
+        allow: u16,
+        row: u16,
+    ) -> Result<(), ListingFault>
+        ensures gives { Gives (if_line (scoped scope.now).names allow row (state self.old)) result (state self.new) }
         ensures same { Same self.new self.old }
         ensures some { OnOk result (0 < allow) }
     {
-        let place = self.keyword(text, b"then")?;
+        let sides = self.equation(scope)?;
+        self.fill_row(row, 0, 0, [sides.left, sides.right, 0, 0, 0]);
+        let place = self.keyword(b"then")?;
         if allow == 0 {
             return Err(ListingFault::Limit(place));
         }
         Ok(())
-    }
-
-    // `if M = N then`
-    pub(crate) fn if_head(
-        &mut self,
-        text: &[u8],
-        scope: &Scope,
-        allow: u16,
-        left: u16,
-        place: usize,
-    ) -> Result<u16, ListingFault>
-        ensures gives { Gives (if_head text.now (scoped scope.now) allow left place (state self.old)) result (state self.new) }
-        ensures same { Same self.new self.old }
-        ensures some { OnOk result ((0 < left) × (0 < allow)) }
-    {
-        let row = self.open_row(left, ProcessKind::If, scope.count, place)?;
-        let sides = self.equation(text, scope)?;
-        self.fill_row(row, 0, 0, [sides.left, sides.right, 0, 0, 0]);
-        self.branching(text, allow)?;
-        Ok(row)
     }
 }

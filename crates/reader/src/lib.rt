@@ -4,6 +4,7 @@
 
 mod heads;
 mod names;
+mod parts;
 mod process_rows;
 mod processes;
 mod tables;

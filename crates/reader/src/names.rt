@@ -1,19 +1,17 @@
 // The words that are bound as names.
-ghost use Rattle.std.specs.Prelude.{◌≡◌, ℕ, ◌+◌, ◌-◌, ◌<◌, ◌≤◌, IfOk, OnOk};
+ghost use Rattle.std.specs.Prelude.{◌≡◌, ℕ, ◌+◌, ◌-◌, ◌<◌, ◌≤◌, length, IfOk, OnOk};
+ghost use Rattle.arrayvec.specs.ArrayVec.{array_vec_len};
 ghost use Rattle.scanning.specs.Names.{scoped};
 ghost use Rattle.reader.specs.Cursor.{state, Gives, Leaves, Same};
-ghost use Rattle.reader.specs.Names.{bound, Older, new_name, fifth_name, name_list, variables, free_name, one_too_many, free_names, header};
+ghost use Rattle.reader.specs.Names.{bound, all_bound, Older, new_name, fifth_name, name_list, variables, free_name, one_too_many, free_names, header};
 
 use crate::tables::Reader;
-use scanning::{ListingFault, Scope, slot_of, spell};
-use words::{Mark, Span, Token};
+use arrayvec::ArrayVec;
+use scanning::{ListingFault, Scope, spell};
+use words::{Mark, Span};
 
 // Up to four names that are bound together.
-#[derive(Clone, Copy)]
-pub(crate) struct Names {
-    pub(crate) count: u16,
-    pub(crate) at: [Span; 4],
-}
+pub(crate) type Names = ArrayVec<Span, 4>;
 
 // The most names in scope.
 const MOST: u16 = 32;
@@ -30,14 +28,27 @@ fn bind(scope: &mut Scope, name: Span)
     scope.count = n + 1;
 }
 
+// More names in scope.
+pub(crate) fn bind_all(scope: &mut Scope, names: &[Span])
+    requires { scope.old.count + length names.now ≤ 32 }
+    ensures bound { scoped scope.new ≡ all_bound names.now (scoped scope.old) }
+    ensures count { scope.new.count ≡ scope.old.count + length names.now }
+    ensures older { Older scope.new scope.old }
+{
+    for name in names {
+        bind(scope, *name);
+    }
+}
+
 impl Reader<'_> {
     // A new name, where `slots` names are in scope.
-    pub(crate) fn new_name(&mut self, text: &[u8], slots: u16) -> Result<Span, ListingFault>
-        ensures gives { Gives (new_name text.now slots (state self.old)) result (state self.new) }
+    #[tactic(auto, unfolding(crate::specs::Names::new_name))]
+    pub(crate) fn new_name(&mut self, slots: u16) -> Result<Span, ListingFault>
+        ensures gives { Gives (new_name slots (state self.old)) result (state self.new) }
         ensures same { Same self.new self.old }
         ensures room { OnOk result (slots < 32) }
     {
-        let name = self.binder(text)?;
+        let name = self.binder()?;
         if slots >= MOST {
             return Err(ListingFault::Limit(name.start));
         }
@@ -45,100 +56,103 @@ impl Reader<'_> {
     }
 
     // A fifth name.
-    fn fifth_name(&mut self, text: &[u8]) -> Result<Names, ListingFault>
-        ensures gives { Gives (fifth_name text.now (state self.old)) result (state self.new) }
+    // Kept: this and its like for types and terms. Each judges what stands there by its own rules
+    // before it refuses it.
+    #[tactic(auto, unfolding(crate::specs::Names::fifth_name))]
+    fn fifth_name(&mut self) -> Result<Names, ListingFault>
+        ensures gives { Gives (fifth_name (state self.old)) result (state self.new) }
         ensures same { Same self.new self.old }
         ensures never { OnOk result (⊥) }
     {
-        let name = self.binder(text)?;
+        let name = self.binder()?;
         Err(ListingFault::Limit(name.start))
     }
 
     // One to four names with commas between them, up to `)`.
-    fn name_list(&mut self, text: &[u8], slots: u16) -> Result<Names, ListingFault>
+    // Kept: a loop like that of `payload`, for the reason given in types.rt.
+    #[tactic(auto, unfolding(crate::specs::Names::name_list))]
+    fn name_list(&mut self, slots: u16) -> Result<Names, ListingFault>
         requires { slots ≤ 32 }
-        ensures gives { Gives (name_list text.now slots (state self.old)) result (state self.new) }
+        ensures gives { Gives (name_list slots (state self.old)) result (state self.new) }
         ensures same { Same self.new self.old }
-        ensures few { IfOk result (λ ns. (ns.count ≤ 4) × (slots + ns.count ≤ 32)) }
+        ensures room { IfOk result (λ ns. slots + array_vec_len ns ≤ 32) }
     {
-        let mut names = Names {
-            count: 0,
-            at: [Span {
-                token: Token::End,
-                start: 0,
-                end: 0,
-            }; 4],
-        };
-        while names.count < 4 {
-            let n = names.count;
-            let item = self.new_name(text, slots + n)?;
-            names.at[n as usize] = item;
-            names.count = n + 1;
-            let more = self.comma(text, Mark::Close)?;
+        let mut names = Names::new();
+        while !names.is_full() {
+            let item = self.new_name(slots + names.len() as u16)?;
+            names.push(item);
+            let more = self.comma(Mark::Close)?;
             if !more {
                 return Ok(names);
             }
         }
-        self.fifth_name(text)
+        self.fifth_name()
     }
 
     // `(a, b)`
-    pub(crate) fn variables(&mut self, text: &[u8], scope: &Scope) -> Result<Names, ListingFault>
-        ensures gives { Gives (variables text.now scope.now.count (state self.old)) result (state self.new) }
+    // Kept: the clause `room`, here and where names are handed on. It relates the names to the scope that
+    // they are read for, and a struct of both would hold the scope while the reader goes on.
+    #[tactic(auto, unfolding(crate::specs::Names::variables))]
+    pub(crate) fn variables(&mut self, scope: &Scope) -> Result<Names, ListingFault>
+        ensures gives { Gives (variables scope.now.count (state self.old)) result (state self.new) }
         ensures same { Same self.new self.old }
-        ensures few { IfOk result (λ ns. (ns.count ≤ 4) × (scope.now.count + ns.count ≤ 32)) }
+        ensures room { IfOk result (λ ns. scope.now.count + array_vec_len ns ≤ 32) }
     {
-        self.mark(text, Mark::Open)?;
-        self.name_list(text, scope.count)
+        self.mark(Mark::Open)?;
+        self.name_list(scope.count)
     }
 
     // A word that no free name has yet.
-    fn free_name(&mut self, text: &[u8], scope: &Scope) -> Result<Span, ListingFault>
-        ensures gives { Gives (free_name text.now (scoped scope.now) (state self.old)) result (state self.new) }
+    #[tactic(auto, unfolding(crate::specs::Names::free_name))]
+    fn free_name(&mut self, scope: &Scope) -> Result<Span, ListingFault>
+        ensures gives { Gives (free_name (scoped scope.now) (state self.old)) result (state self.new) }
         ensures same { Same self.new self.old }
     {
-        let name = self.binder(text)?;
-        match slot_of(text, scope, spell(text, name.start, name.end)) {
-            Some(_) => Err(ListingFault::Grammar(name.start)),
-            None => Ok(name),
+        let name = self.binder()?;
+        if scope.slot_of(self.text, spell(self.text, name)).is_some() {
+            return Err(ListingFault::Grammar(name.start));
         }
+        Ok(name)
     }
 
     // A thirty-third free name.
-    fn one_too_many(&mut self, text: &[u8], scope: &Scope) -> Result<(), ListingFault>
-        ensures gives { Leaves (one_too_many text.now (scoped scope.now) (state self.old)) result (scoped scope.now) (state self.new) }
+    #[tactic(auto, unfolding(crate::specs::Names::one_too_many))]
+    fn one_too_many(&mut self, scope: &Scope) -> Result<(), ListingFault>
+        ensures gives { Leaves (one_too_many (scoped scope.now) (state self.old)) result (scoped scope.now) (state self.new) }
         ensures same { Same self.new self.old }
     {
-        let name = self.free_name(text, scope)?;
+        let name = self.free_name(scope)?;
         Err(ListingFault::Limit(name.start))
     }
 
     // `c, d;`
-    fn free_names(&mut self, text: &[u8], scope: &mut Scope) -> Result<(), ListingFault>
-        ensures gives { Leaves (free_names (32 - scope.old.count) text.now (scoped scope.old) (state self.old)) result (scoped scope.new) (state self.new) }
+    // Kept: a loop like that of `payload`, for the reason given in types.rt.
+    fn free_names(&mut self, scope: &mut Scope) -> Result<(), ListingFault>
+        ensures gives { Leaves (free_names (32 - scope.old.count) (scoped scope.old) (state self.old)) result (scoped scope.new) (state self.new) }
         ensures same { Same self.new self.old }
     {
         while scope.count < MOST {
-            let item = self.free_name(text, scope)?;
+            let item = self.free_name(scope)?;
             bind(scope, item);
-            let more = self.comma(text, Mark::Semicolon)?;
+            let more = self.comma(Mark::Semicolon)?;
             if !more {
                 return Ok(());
             }
         }
-        self.one_too_many(text, scope)
+        self.one_too_many(scope)
     }
 
     // `free c, d;` or nothing: no other name is in scope then.
-    pub(crate) fn header(&mut self, text: &[u8], scope: &mut Scope) -> Result<(), ListingFault>
-        ensures gives { Leaves (header text.now (state self.old)) result (scoped scope.new) (state self.new) }
+    #[tactic(auto, unfolding(crate::specs::Names::header))]
+    pub(crate) fn header(&mut self, scope: &mut Scope) -> Result<(), ListingFault>
+        ensures gives { Leaves (header (state self.old)) result (scoped scope.new) (state self.new) }
         ensures same { Same self.new self.old }
     {
         scope.count = 0;
-        let next = self.ahead(text, b"free")?;
+        let next = self.ahead(b"free")?;
         match next {
             None => Ok(()),
-            Some(_) => self.free_names(text, scope),
+            Some(_) => self.free_names(scope),
         }
     }
 }

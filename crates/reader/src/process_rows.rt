@@ -4,7 +4,7 @@ ghost use Rattle.std.specs.Prelude.{◌≡◌, ℕ, ◌<◌, OnOk};
 ghost use Rattle.reader.specs.Cursor.{state, Gives, Same};
 ghost use Rattle.reader.specs.Rows.{open_row, fill_row, close_row};
 
-use crate::tables::Reader;
+use crate::tables::{Reader, append};
 use rows::{ProcessKind, ProcessRow};
 use scanning::ListingFault;
 
@@ -13,6 +13,7 @@ const MOST: u16 = 512;
 
 impl Reader<'_> {
     // A new row, whose text begins at `place`. Answers its number.
+    #[tactic(auto, unfolding(crate::specs::Rows::open_row))]
     pub(crate) fn open_row(
         &mut self,
         left: u16,
@@ -24,63 +25,53 @@ impl Reader<'_> {
         ensures same { Same self.new self.old }
         ensures some { OnOk result (0 < left) }
     {
-        let row = self.filled;
-        if left == 0 {
+        let i = self.filled as usize;
+        if left == 0 || i >= self.places.len() {
             return Err(ListingFault::Limit(place));
         }
-        if row >= MOST {
-            return Err(ListingFault::Limit(place));
-        }
-        if row as usize >= self.rows.len() {
-            return Err(ListingFault::Limit(place));
-        }
-        if row as usize >= self.places.len() {
-            return Err(ListingFault::Limit(place));
-        }
-        let first = self.used;
-        let end = row + 1;
-        self.rows[row as usize] = ProcessRow {
+        let row = ProcessRow {
             kind,
             slots,
-            end,
-            ty: 0,
-            count: 0,
-            first,
-            terms: 0,
-            operands: [0; 5],
+            end: self.filled + 1,
+            first: self.used,
+            ..ProcessRow::default()
         };
-        self.places[row as usize] = place.min(65535) as u16;
-        self.filled = end;
-        self.run = first;
-        Ok(row)
+        let n = append(self.rows, &mut self.filled, MOST, row, place)?;
+        self.places[i] = place.min(65535) as u16;
+        self.run = self.used;
+        Ok(n)
     }
 
     // What the row says; its run has all terms since it was opened.
+    // Kept: a test of the place and no `get_mut`, also in `close_row`. Of a slice that lent a row by
+    // it the check knows the length and no row: the goal that the state is `fill_row ..` stays open.
+    #[tactic(auto, using(std::proofs::lemmas::List::set_past), unfolding(crate::specs::Rows::fill_row))]
     pub(crate) fn fill_row(&mut self, row: u16, ty: u16, count: u16, operands: [u16; 5])
         ensures gives { state self.new ≡ fill_row row ty count operands (state self.old) }
         ensures same { Same self.new self.old }
     {
         let i = row as usize;
         if i < self.rows.len() {
-            let mut old = self.rows[i];
-            old.ty = ty;
-            old.count = count;
-            old.terms = self.used.saturating_sub(old.first);
-            old.operands = operands;
-            self.rows[i] = old;
+            let old = self.rows[i];
+            self.rows[i] = ProcessRow {
+                ty,
+                count,
+                terms: self.used.saturating_sub(old.first),
+                operands,
+                ..old
+            };
         }
     }
 
     // The row ends where the last row so far does.
+    #[tactic(auto, using(std::proofs::lemmas::List::set_past), unfolding(crate::specs::Rows::close_row))]
     pub(crate) fn close_row(&mut self, row: u16)
         ensures gives { state self.new ≡ close_row row (state self.old) }
         ensures same { Same self.new self.old }
     {
         let i = row as usize;
         if i < self.rows.len() {
-            let mut old = self.rows[i];
-            old.end = self.filled;
-            self.rows[i] = old;
+            self.rows[i].end = self.filled;
         }
     }
 }

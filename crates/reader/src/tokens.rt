@@ -1,68 +1,74 @@
 // Single tokens. Each is judged before the next is read.
 ghost use Rattle.std.specs.Prelude.{◌≡◌};
 ghost use Rattle.reader.specs.Cursor.{state, Gives, Same};
-ghost use Rattle.reader.specs.Tokens.{token, ahead, word, mark, keyword, number, comma, binder, ending};
+ghost use Rattle.reader.specs.Tokens.{token, ahead, exactly, word, mark, keyword, number, comma, heading, named, beginning, binder, ending};
 
 use crate::tables::Reader;
-use scanning::{Head, ListingFault, head_of, is_mark, is_text, is_word, spell};
+use rows::ProcessKind;
+use scanning::{Head, ListingFault, first_of, head_of, spell};
 use words::{Mark, Span, Token};
 
 impl Reader<'_> {
     // The next token.
-    pub(crate) fn take(&mut self, text: &[u8]) -> Result<Span, ListingFault>
-        ensures gives { Gives (token text.now (state self.old)) result (state self.new) }
+    pub(crate) fn take(&mut self) -> Result<Span, ListingFault>
+        ensures gives { Gives (token (state self.old)) result (state self.new) }
         ensures same { Same self.new self.old }
     {
-        let found = words::next_token(text, self.at)?;
+        let found = words::next_token(self.text, self.at)?;
         self.at = found.end;
         Ok(found)
     }
 
     // The next token, which is read only if it is the word `w`.
-    pub(crate) fn ahead(&mut self, text: &[u8], w: &[u8]) -> Result<Option<Span>, ListingFault>
-        ensures gives { Gives (ahead text.now w.now (state self.old)) result (state self.new) }
+    #[tactic(auto, unfolding(crate::specs::Tokens::ahead))]
+    pub(crate) fn ahead(&mut self, w: &[u8]) -> Result<Option<Span>, ListingFault>
+        ensures gives { Gives (ahead w.now (state self.old)) result (state self.new) }
         ensures same { Same self.new self.old }
     {
-        let found = words::next_token(text, self.at)?;
-        if is_text(spell(text, found.start, found.end), w) {
+        let found = words::next_token(self.text, self.at)?;
+        if spell(self.text, found) == w {
             self.at = found.end;
             return Ok(Some(found));
         }
         Ok(None)
     }
 
-    pub(crate) fn word(&mut self, text: &[u8]) -> Result<Span, ListingFault>
-        ensures gives { Gives (word text.now (state self.old)) result (state self.new) }
+    // The token `t`.
+    fn exactly(&mut self, t: Token) -> Result<Span, ListingFault>
+        ensures gives { Gives (exactly t (state self.old)) result (state self.new) }
         ensures same { Same self.new self.old }
     {
-        let found = self.take(text)?;
-        if is_word(found.token) {
+        let found = self.take()?;
+        if found.token == t {
             Ok(found)
         } else {
             Err(ListingFault::Grammar(found.start))
         }
     }
 
-    // The mark `m`. Answers its place.
-    pub(crate) fn mark(&mut self, text: &[u8], m: Mark) -> Result<usize, ListingFault>
-        ensures gives { Gives (mark text.now m (state self.old)) result (state self.new) }
+    pub(crate) fn word(&mut self) -> Result<Span, ListingFault>
+        ensures gives { Gives (word (state self.old)) result (state self.new) }
         ensures same { Same self.new self.old }
     {
-        let found = self.take(text)?;
-        if is_mark(found.token, m) {
-            Ok(found.start)
-        } else {
-            Err(ListingFault::Grammar(found.start))
-        }
+        self.exactly(Token::Word)
+    }
+
+    // The mark `m`. Answers its place.
+    pub(crate) fn mark(&mut self, m: Mark) -> Result<usize, ListingFault>
+        ensures gives { Gives (mark m (state self.old)) result (state self.new) }
+        ensures same { Same self.new self.old }
+    {
+        let found = self.exactly(Token::Single(m))?;
+        Ok(found.start)
     }
 
     // The grammar's word `w`. Answers its place.
-    pub(crate) fn keyword(&mut self, text: &[u8], w: &[u8]) -> Result<usize, ListingFault>
-        ensures gives { Gives (keyword text.now w.now (state self.old)) result (state self.new) }
+    pub(crate) fn keyword(&mut self, w: &[u8]) -> Result<usize, ListingFault>
+        ensures gives { Gives (keyword w.now (state self.old)) result (state self.new) }
         ensures same { Same self.new self.old }
     {
-        let found = self.take(text)?;
-        if is_text(spell(text, found.start, found.end), w) {
+        let found = self.take()?;
+        if spell(self.text, found) == w {
             Ok(found.start)
         } else {
             Err(ListingFault::Grammar(found.start))
@@ -70,55 +76,82 @@ impl Reader<'_> {
     }
 
     // A number. Answers its value.
-    pub(crate) fn number(&mut self, text: &[u8]) -> Result<u16, ListingFault>
-        ensures gives { Gives (number text.now (state self.old)) result (state self.new) }
+    pub(crate) fn number(&mut self) -> Result<u16, ListingFault>
+        ensures gives { Gives (number (state self.old)) result (state self.new) }
         ensures same { Same self.new self.old }
     {
-        let found = self.take(text)?;
+        let found = self.take()?;
         match found.token {
             Token::Number(value) => Ok(value),
-            Token::End => Err(ListingFault::Grammar(found.start)),
-            Token::Word => Err(ListingFault::Grammar(found.start)),
-            Token::Single(_) => Err(ListingFault::Grammar(found.start)),
+            _ => Err(ListingFault::Grammar(found.start)),
         }
     }
 
     // Whether a comma comes, after which there is more, and not the mark that ends a list.
-    pub(crate) fn comma(&mut self, text: &[u8], stop: Mark) -> Result<bool, ListingFault>
-        ensures gives { Gives (comma text.now stop (state self.old)) result (state self.new) }
+    #[tactic(auto, unfolding(crate::specs::Tokens::comma))]
+    pub(crate) fn comma(&mut self, stop: Mark) -> Result<bool, ListingFault>
+        ensures gives { Gives (comma stop (state self.old)) result (state self.new) }
         ensures same { Same self.new self.old }
     {
-        let found = self.take(text)?;
-        if is_mark(found.token, stop) {
+        let found = self.take()?;
+        if found.token == Token::Single(stop) {
             return Ok(false);
         }
-        if is_mark(found.token, Mark::Comma) {
+        if found.token == Token::Single(Mark::Comma) {
             return Ok(true);
         }
         Err(ListingFault::Grammar(found.start))
     }
 
-    // A word that may be a name.
-    pub(crate) fn binder(&mut self, text: &[u8]) -> Result<Span, ListingFault>
-        ensures gives { Gives (binder text.now (state self.old)) result (state self.new) }
+    // The first word of a term, and what it says.
+    #[tactic(auto, unfolding(crate::specs::Tokens::heading))]
+    pub(crate) fn heading(&mut self) -> Result<(Head, Span), ListingFault>
+        ensures gives { Gives (heading (state self.old)) result (state self.new) }
         ensures same { Same self.new self.old }
     {
-        let name = self.word(text)?;
-        match head_of(spell(text, name.start, name.end)) {
-            Head::Name => Ok(name),
-            _ => Err(ListingFault::Grammar(name.start)),
+        let word = self.word()?;
+        let head = head_of(spell(self.text, word)).ok_or(ListingFault::Grammar(word.start))?;
+        Ok((head, word))
+    }
+
+    // The first token of a process, and which process begins so.
+    #[tactic(auto, unfolding(crate::specs::Tokens::beginning))]
+    pub(crate) fn beginning(&mut self) -> Result<(ProcessKind, Span), ListingFault>
+        ensures gives { Gives (beginning (state self.old)) result (state self.new) }
+        ensures same { Same self.new self.old }
+    {
+        let found = self.take()?;
+        let kind = first_of(self.text, found).ok_or(ListingFault::Grammar(found.start))?;
+        Ok((kind, found))
+    }
+
+    // Refuses a word that may be no name.
+    pub(crate) fn named(&self, word: Span) -> Result<(), ListingFault>
+        ensures { Gives (named word (state self.now)) result (state self.now) }
+    {
+        match head_of(spell(self.text, word)) {
+            Some(Head::Name) => Ok(()),
+            _ => Err(ListingFault::Grammar(word.start)),
         }
     }
 
-    // The end of the text.
-    pub(crate) fn ending(&mut self, text: &[u8]) -> Result<(), ListingFault>
-        ensures gives { Gives (ending text.now (state self.old)) result (state self.new) }
+    // A word that may be a name.
+    #[tactic(auto, unfolding(crate::specs::Tokens::binder))]
+    pub(crate) fn binder(&mut self) -> Result<Span, ListingFault>
+        ensures gives { Gives (binder (state self.old)) result (state self.new) }
         ensures same { Same self.new self.old }
     {
-        let found = self.take(text)?;
-        match found.token {
-            Token::End => Ok(()),
-            _ => Err(ListingFault::Grammar(found.start)),
-        }
+        let word = self.word()?;
+        self.named(word)?;
+        Ok(word)
+    }
+
+    // The end of the text.
+    pub(crate) fn ending(&mut self) -> Result<(), ListingFault>
+        ensures gives { Gives (ending (state self.old)) result (state self.new) }
+        ensures same { Same self.new self.old }
+    {
+        self.exactly(Token::End)?;
+        Ok(())
     }
 }

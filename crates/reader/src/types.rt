@@ -1,252 +1,170 @@
 // Types. Equal types share a row.
 ghost use Rattle.std.specs.Prelude.{◌≡◌, ℕ, ◌+◌, ◌-◌, ◌<◌, ◌≤◌, ◌∷◌, codes};
-ghost use Rattle.scanning.specs.Names.{declared};
-ghost use Rattle.reader.specs.Cursor.{state, Gives, Leaves, Same};
-ghost use Rattle.reader.specs.Types.{type_named, payload_type, fifth_type, payload, kind, parts_of, type_row, described};
-ghost use Rattle.reader.specs.Types.{equal_row, add_type, share, new_type, declaration, declarations};
+ghost use Rattle.arrayvec.specs.ArrayVec.{array_vec_len};
+ghost use Rattle.rows.specs.Types.{equal_row};
+ghost use Rattle.reader.specs.Cursor.{state, Gives, Lent, Same};
+ghost use Rattle.reader.specs.Types.{type_named, payload_type, fifth_type, payload, kind, parts_of, described};
+ghost use Rattle.reader.specs.Types.{share, new_type, declaration, declarations};
 
-use crate::tables::{Parts, Reader};
+use crate::parts::Parts;
+use crate::tables::{Reader, append};
 use rows::{TypeKind, TypeRow};
-use scanning::{
-    Head, ListingFault, TypeWord, TypeWords, head_of, is_text, row_of, spell, type_kind,
-};
+use scanning::{ListingFault, TypeWord, row_of, spell, type_kind};
 use words::{Mark, Span};
 
 // The most type rows.
 const MOST: u16 = 64;
 
-// The most words that a text can declare.
-const MOST_WORDS: u16 = 2184;
-
-fn type_row(kind: TypeKind, level: u16, parts: Parts) -> TypeRow
-    ensures { result ≡ type_row kind level parts }
-{
-    let at = parts.at;
-    TypeRow {
-        kind,
-        level,
-        count: parts.count,
-        payload: at,
-    }
-}
-
-// One more declared word.
-fn declare(types: &mut TypeWords, word: TypeWord)
-    requires { types.old.count < 2184 }
-    ensures bound { declared types.new ≡ word ∷ declared types.old }
-    ensures count { types.new.count ≡ types.old.count + 1 }
-{
-    let n = types.count;
-    types.words[n as usize] = word;
-    types.count = n + 1;
-}
-
-// The row of a type among the first `n` of a table.
-fn equal_row(table: &[TypeRow], t: TypeRow, n: u16) -> Option<u16>
-    ensures { result ≡ equal_row table.now t n }
-{
-    let mut found = None;
-    for i in 0..n {
-        if TypeRow::at(table, i).same(&t) {
-            found = Some(i);
-        }
-    }
-    found
-}
-
 impl Reader<'_> {
     // `open`, which is row 0, or a word declared before.
-    pub(crate) fn type_named(
-        &mut self,
-        text: &[u8],
-        types: &TypeWords,
-    ) -> Result<TypeWord, ListingFault>
-        ensures gives { Gives (type_named text.now (declared types.now) (state self.old)) result (state self.new) }
+    #[tactic(auto, unfolding(crate::specs::Types::type_named))]
+    pub(crate) fn type_named(&mut self) -> Result<TypeWord, ListingFault>
+        ensures gives { Gives (type_named (state self.old)) result (state self.new) }
         ensures same { Same self.new self.old }
     {
-        let word = self.word(text)?;
-        let w = spell(text, word.start, word.end);
-        if is_text(w, b"open") {
+        let word = self.word()?;
+        let w = spell(self.text, word);
+        if w == b"open".as_slice() {
             return Ok(TypeWord { word, row: 0 });
         }
-        match head_of(w) {
-            Head::Name => match row_of(text, types, w) {
-                None => Err(ListingFault::Name(word.start)),
-                Some(row) => Ok(TypeWord { word, row }),
-            },
-            _ => Err(ListingFault::Grammar(word.start)),
-        }
+        self.named(word)?;
+        let row = row_of(self.text, &self.words, w).ok_or(ListingFault::Name(word.start))?;
+        Ok(TypeWord { word, row })
     }
 
-    fn payload_type(&mut self, text: &[u8], types: &TypeWords) -> Result<u16, ListingFault>
-        ensures gives { Gives (payload_type text.now (declared types.now) (state self.old)) result (state self.new) }
+    #[tactic(auto, unfolding(crate::specs::Types::payload_type))]
+    fn payload_type(&mut self) -> Result<u16, ListingFault>
+        ensures gives { Gives (payload_type (state self.old)) result (state self.new) }
         ensures same { Same self.new self.old }
     {
-        let found = self.type_named(text, types)?;
+        let found = self.type_named()?;
         Ok(found.row)
     }
 
     // A fifth payload type.
-    fn fifth_type(&mut self, text: &[u8], types: &TypeWords) -> Result<Parts, ListingFault>
-        ensures gives { Gives (fifth_type text.now (declared types.now) (state self.old)) result (state self.new) }
+    #[tactic(auto, unfolding(crate::specs::Types::fifth_type))]
+    fn fifth_type(&mut self) -> Result<Parts, ListingFault>
+        ensures gives { Gives (fifth_type (state self.old)) result (state self.new) }
         ensures same { Same self.new self.old }
     {
-        let found = self.type_named(text, types)?;
+        let found = self.type_named()?;
         Err(ListingFault::Limit(found.word.start))
     }
 
     // One to four types with commas between them, up to `)`.
-    fn payload(&mut self, text: &[u8], types: &TypeWords) -> Result<Parts, ListingFault>
-        ensures gives { Gives (payload text.now (declared types.now) (state self.old)) result (state self.new) }
+    // Kept: a loop of its own. One for all lists would take two closures on the reader, for an item and
+    // for one too many, each with its contract, and be longer than this loop and those of `name_list`
+    // and `free_names`.
+    #[tactic(auto, unfolding(crate::specs::Types::payload))]
+    fn payload(&mut self) -> Result<Parts, ListingFault>
+        ensures gives { Gives (payload (state self.old)) result (state self.new) }
         ensures same { Same self.new self.old }
     {
-        let mut parts = Parts {
-            count: 0,
-            at: [0; 4],
-        };
+        let mut parts = Parts::default();
         while parts.count < 4 {
-            let item = self.payload_type(text, types)?;
-            let n = parts.count;
-            parts.at[n as usize] = item;
-            parts.count = n + 1;
-            let more = self.comma(text, Mark::Close)?;
+            let item = self.payload_type()?;
+            parts.push(item);
+            let more = self.comma(Mark::Close)?;
             if !more {
                 return Ok(parts);
             }
         }
-        self.fifth_type(text, types)
+        self.fifth_type()
     }
 
-    fn kind(&mut self, text: &[u8]) -> Result<TypeKind, ListingFault>
-        ensures gives { Gives (kind text.now (state self.old)) result (state self.new) }
+    #[tactic(auto, unfolding(crate::specs::Types::kind))]
+    fn kind(&mut self) -> Result<TypeKind, ListingFault>
+        ensures gives { Gives (kind (state self.old)) result (state self.new) }
         ensures same { Same self.new self.old }
     {
-        let word = self.word(text)?;
-        match type_kind(spell(text, word.start, word.end)) {
-            None => Err(ListingFault::Grammar(word.start)),
-            Some(kind) => Ok(kind),
-        }
+        let word = self.word()?;
+        type_kind(spell(self.text, word)).ok_or(ListingFault::Grammar(word.start))
     }
 
     // What follows the level: nothing at a plain level, else a payload in brackets.
-    fn parts_of(
-        &mut self,
-        text: &[u8],
-        types: &TypeWords,
-        kind: TypeKind,
-    ) -> Result<Parts, ListingFault>
-        ensures gives { Gives (parts_of kind text.now (declared types.now) (state self.old)) result (state self.new) }
+    #[tactic(auto, unfolding(crate::specs::Types::parts_of))]
+    fn parts_of(&mut self, kind: TypeKind) -> Result<Parts, ListingFault>
+        ensures gives { Gives (parts_of kind (state self.old)) result (state self.new) }
         ensures same { Same self.new self.old }
     {
-        if kind.is(TypeKind::Level) {
-            return Ok(Parts {
-                count: 0,
-                at: [0; 4],
-            });
+        if kind == TypeKind::Level {
+            return Ok(Parts::default());
         }
-        self.mark(text, Mark::Open)?;
-        self.payload(text, types)
+        self.mark(Mark::Open)?;
+        self.payload()
     }
 
     // `level 2` or `chan 2 (s, open)`
-    fn described(&mut self, text: &[u8], types: &TypeWords) -> Result<TypeRow, ListingFault>
-        ensures gives { Gives (described text.now (declared types.now) (state self.old)) result (state self.new) }
+    #[tactic(auto, unfolding(crate::specs::Types::described))]
+    fn described(&mut self) -> Result<TypeRow, ListingFault>
+        ensures gives { Gives (described (state self.old)) result (state self.new) }
         ensures same { Same self.new self.old }
     {
-        let kind = self.kind(text)?;
-        let level = self.number(text)?;
-        let parts = self.parts_of(text, types, kind)?;
-        Ok(type_row(kind, level, parts))
+        let kind = self.kind()?;
+        let level = self.number()?;
+        let parts = self.parts_of(kind)?;
+        Ok(parts.typed(kind, level))
     }
 
     // The row that is equal to a type.
     fn row_like(&self, t: TypeRow) -> Option<u16>
         ensures { result ≡ equal_row (state self.now).types t self.now.typed }
     {
-        let typed = self.typed;
-        equal_row(self.types, t, typed)
-    }
-
-    // A type in the next free row.
-    fn add_type(&mut self, t: TypeRow, place: usize) -> Result<u16, ListingFault>
-        ensures gives { Gives (add_type t place (state self.old)) result (state self.new) }
-        ensures same { Same self.new self.old }
-    {
-        let typed = self.typed;
-        if typed >= MOST {
-            return Err(ListingFault::Limit(place));
-        }
-        if typed as usize >= self.types.len() {
-            return Err(ListingFault::Limit(place));
-        }
-        self.types[typed as usize] = t;
-        self.typed = typed + 1;
-        Ok(typed)
+        let row = t.last_in(&self.types[..self.typed as usize])?;
+        Some(row as u16)
     }
 
     // The row of a type, which is a new one if no row is equal to it.
+    #[tactic(auto, unfolding(crate::specs::Types::share))]
     pub(crate) fn share(&mut self, t: TypeRow, place: usize) -> Result<u16, ListingFault>
         ensures gives { Gives (share t place (state self.old)) result (state self.new) }
         ensures same { Same self.new self.old }
     {
         match self.row_like(t) {
-            None => self.add_type(t, place),
+            None => append(self.types, &mut self.typed, MOST, t, place),
             Some(row) => Ok(row),
         }
     }
 
     // `q =`: a word that names no type yet.
-    fn new_type(&mut self, text: &[u8], types: &TypeWords) -> Result<Span, ListingFault>
-        ensures gives { Gives (new_type text.now (declared types.now) (state self.old)) result (state self.new) }
+    #[tactic(auto, unfolding(crate::specs::Types::new_type))]
+    fn new_type(&mut self) -> Result<Span, ListingFault>
+        ensures gives { Gives (new_type (state self.old)) result (state self.new) }
         ensures same { Same self.new self.old }
     {
-        let word = self.binder(text)?;
-        match row_of(text, types, spell(text, word.start, word.end)) {
-            Some(_) => Err(ListingFault::Grammar(word.start)),
-            None => {
-                self.mark(text, Mark::Equals)?;
-                Ok(word)
-            }
+        let word = self.binder()?;
+        if row_of(self.text, &self.words, spell(self.text, word)).is_some() {
+            return Err(ListingFault::Grammar(word.start));
         }
+        self.mark(Mark::Equals)?;
+        Ok(word)
     }
 
     // What follows the word `type`, which stands at `place`.
-    fn declaration(
-        &mut self,
-        text: &[u8],
-        types: &TypeWords,
-        place: usize,
-    ) -> Result<TypeWord, ListingFault>
-        ensures gives { Gives (declaration text.now (declared types.now) place (state self.old)) result (state self.new) }
+    #[tactic(auto, unfolding(crate::specs::Types::declaration))]
+    fn declaration(&mut self, place: usize) -> Result<TypeWord, ListingFault>
+        ensures gives { Gives (declaration place (state self.old)) result (state self.new) }
         ensures same { Same self.new self.old }
     {
-        let word = self.new_type(text, types)?;
-        let t = self.described(text, types)?;
+        let word = self.new_type()?;
+        let t = self.described()?;
         let row = self.share(t, place)?;
-        self.mark(text, Mark::Semicolon)?;
+        self.mark(Mark::Semicolon)?;
         Ok(TypeWord { word, row })
     }
+
     // The declared types, as far as they go.
-    pub(crate) fn declarations(
-        &mut self,
-        text: &[u8],
-        types: &mut TypeWords,
-    ) -> Result<(), ListingFault>
-        ensures gives { Leaves (declarations (2184 - types.old.count) text.now (declared types.old) (state self.old)) result (declared types.new) (state self.new) }
-        ensures same { Same self.new self.old }
+    pub(crate) fn declarations(&mut self) -> Result<(), ListingFault>
+        ensures gives { Gives (declarations (2184 - array_vec_len self.old.words) (state self.old)) result (state self.new) }
+        ensures lent { Lent self.new self.old }
     {
-        loop {
-            let next = self.ahead(text, b"type")?;
-            match next {
-                None => return Ok(()),
-                Some(first) => {
-                    if types.count >= MOST_WORDS {
-                        return Err(ListingFault::Limit(first.start));
-                    }
-                    let word = self.declaration(text, types, first.start)?;
-                    declare(types, word);
-                }
+        while let Some(first) = self.ahead(b"type")? {
+            if self.words.is_full() {
+                return Err(ListingFault::Limit(first.start));
             }
+            let word = self.declaration(first.start)?;
+            self.words.push(word);
         }
+        Ok(())
     }
 }

@@ -1,112 +1,64 @@
 // A whole listing, read into lent tables.
 ghost use Rattle.std.specs.Prelude.{◌≡◌, ℕ, ◌+◌, ◌<◌, ◌≤◌, length, replicate, IfOk};
-ghost use Rattle.scanning.specs.Names.{declared, scoped};
-ghost use Rattle.reader.specs.Cursor.{state, Gives, Leaves, Same};
+ghost use Rattle.reader.specs.Cursor.{state, Gives, Lent, Same};
 ghost use Rattle.reader.specs.Whole.{zero_type, zero_process, zero_term, types_read, body, whole, started, tables, Told, sizes_of, ReadAs};
 ghost use Rattle.reader.specs.Sound.{Sound, rows_in_use, Never20Or23};
 ghost use Rattle.reader.specs.Examples.{Examples};
 
-use crate::processes::Kept;
+use crate::processes::ScopeGuard;
 use crate::tables::Reader;
-use rows::{ProcessKind, ProcessRow, TermKind, TermRow, TypeKind, TypeRow};
-use scanning::{ListingFault, Scope, TypeWord, TypeWords};
-use words::{Span, Token};
+use arrayvec::ArrayVec;
+use rows::{ProcessRow, TermRow, TypeRow};
+use scanning::{ListingFault, Scope};
 
 // The most bytes of a text.
 const LONGEST: usize = 32768;
 
 /// How many rows of each table are in use.
-#[derive(Clone, Copy)]
+#[derive(Clone, Copy, Debug, PartialEq, Eq)]
 pub struct Counts {
     pub types: u16,
     pub processes: u16,
     pub terms: u16,
 }
 
-fn clear_types(types: &mut [TypeRow])
-    ensures { types.new ≡ replicate (length types.old) zero_type }
+fn clear(
+    types: &mut [TypeRow],
+    processes: &mut [ProcessRow],
+    terms: &mut [TermRow],
+    places: &mut [u16],
+)
+    ensures types { types.new ≡ replicate (length types.old) zero_type }
+    ensures processes { processes.new ≡ replicate (length processes.old) zero_process }
+    ensures terms { terms.new ≡ replicate (length terms.old) zero_term }
+    ensures places { places.new ≡ replicate (length places.old) 0 }
 {
-    let zero = TypeRow {
-        kind: TypeKind::Level,
-        level: 0,
-        count: 0,
-        payload: [0; 4],
-    };
-    for x in types.iter_mut() {
-        *x = zero;
-    }
-}
-
-fn clear_processes(processes: &mut [ProcessRow])
-    ensures { processes.new ≡ replicate (length processes.old) zero_process }
-{
-    let zero = ProcessRow {
-        kind: ProcessKind::Stop,
-        slots: 0,
-        end: 0,
-        ty: 0,
-        count: 0,
-        first: 0,
-        terms: 0,
-        operands: [0; 5],
-    };
-    for x in processes.iter_mut() {
-        *x = zero;
-    }
-}
-
-fn clear_terms(terms: &mut [TermRow])
-    ensures { terms.new ≡ replicate (length terms.old) zero_term }
-{
-    let zero = TermRow {
-        kind: TermKind::Slot,
-        slot: 0,
-        count: 0,
-        parts: [0; 4],
-        key: 0,
-    };
-    for x in terms.iter_mut() {
-        *x = zero;
-    }
-}
-
-fn clear_places(places: &mut [u16])
-    ensures { places.new ≡ replicate (length places.old) 0 }
-{
-    for x in places.iter_mut() {
-        *x = 0;
-    }
+    types.fill(TypeRow::default());
+    processes.fill(ProcessRow::default());
+    terms.fill(TermRow::default());
+    places.fill(0);
 }
 
 impl Reader<'_> {
     // The open level in row 0, and the declared types.
-    fn types_read(
-        &mut self,
-        level: u16,
-        text: &[u8],
-        types: &mut TypeWords,
-    ) -> Result<(), ListingFault>
-        requires { types.old.count ≡ 0 }
-        ensures gives { Leaves (types_read level text.now (state self.old)) result (declared types.new) (state self.new) }
-        ensures same { Same self.new self.old }
+    #[tactic(auto, using(crate::proofs::Declared::length_declared), unfolding(crate::specs::Whole::types_read))]
+    fn types_read(&mut self, level: u16) -> Result<(), ListingFault>
+        ensures gives { Gives (types_read level (state self.old)) result (state self.new) }
+        ensures lent { Lent self.new self.old }
     {
         self.share(TypeRow::plain(level), 0)?;
-        self.declarations(text, types)
+        self.declarations()
     }
 
     // The free names, one process, and the end of the text.
-    fn body(
-        &mut self,
-        text: &[u8],
-        types: &TypeWords,
-        scope: &mut Scope,
-    ) -> Result<Counts, ListingFault>
-        ensures gives { Gives (body text.now (declared types.now) (state self.old)) result (state self.new) }
+    #[tactic(auto, unfolding(crate::specs::Whole::body))]
+    fn body(&mut self, scope: &mut Scope) -> Result<Counts, ListingFault>
+        ensures gives { Gives (body (state self.old)) result (state self.new) }
         ensures same { Same self.new self.old }
     {
-        self.header(text, scope)?;
-        self.process(text, types, scope, 32, 512)?;
-        self.ending(text)?;
+        self.header(scope)?;
+        self.process(scope, 32, 512)?;
+        self.ending()?;
         Ok(Counts {
             types: self.typed,
             processes: self.filled,
@@ -114,37 +66,24 @@ impl Reader<'_> {
         })
     }
 
-    fn whole(
-        &mut self,
-        level: u16,
-        text: &[u8],
-        types: &mut TypeWords,
-        scope: &mut Scope,
-    ) -> Result<Counts, ListingFault>
-        requires { types.old.count ≡ 0 }
-        ensures gives { Gives (whole level text.now (state self.old)) result (state self.new) }
-        ensures same { Same self.new self.old }
+    #[tactic(auto, unfolding(crate::specs::Whole::whole))]
+    fn whole(&mut self, level: u16, scope: &mut Scope) -> Result<Counts, ListingFault>
+        ensures gives { Gives (whole level (state self.old)) result (state self.new) }
+        ensures lent { Lent self.new self.old }
     {
-        self.types_read(level, text, types)?;
-        self.body(text, types, scope)
+        self.types_read(level)?;
+        self.body(scope)
     }
 
     // A whole text, whose names go out of scope with it, on every way out.
-    fn apart(
-        &mut self,
-        level: u16,
-        text: &[u8],
-        types: &mut TypeWords,
-        scope: &mut Scope,
-    ) -> Result<Counts, ListingFault>
-        requires { types.old.count ≡ 0 }
-        ensures gives { Gives (whole level text.now (state self.old)) result (state self.new) }
-        ensures same { Same self.new self.old }
+    fn apart(&mut self, level: u16, scope: &mut Scope) -> Result<Counts, ListingFault>
+        ensures gives { Gives (whole level (state self.old)) result (state self.new) }
+        ensures lent { Lent self.new self.old }
         ensures kept { scope.new.count ≡ scope.old.count }
     {
         let count = scope.count;
-        let guard = Kept { scope, count };
-        self.whole(level, text, types, guard.scope)
+        let guard = ScopeGuard { scope, count };
+        self.whole(level, guard.scope)
     }
 }
 
@@ -158,19 +97,12 @@ fn read_into(
     places: &mut [u16],
     scope: &mut Scope,
 ) -> Result<Counts, ListingFault>
-    ensures told { Told (tables (whole level text.now (started types.old processes.old terms.old places.old))) result types.new processes.new terms.new places.new }
+    ensures told { Told (tables (whole level (started text.now types.old processes.old terms.old places.old))) result types.new processes.new terms.new places.new }
     ensures kept { scope.new.count ≡ scope.old.count }
 {
-    let none = Span {
-        token: Token::End,
-        start: 0,
-        end: 0,
-    };
-    let mut declared = TypeWords {
-        words: [TypeWord { word: none, row: 0 }; 2184],
-        count: 0,
-    };
     let mut reader = Reader {
+        text,
+        words: ArrayVec::new(),
         at: 0,
         types,
         typed: 0,
@@ -181,9 +113,10 @@ fn read_into(
         used: 0,
         run: 0,
     };
-    reader.apart(level, text, &mut declared, scope)
+    reader.apart(level, scope)
 }
 
+// Kept: four lent slices, by a rule of the project: tables are lent as slices of rows.
 /// Reads a listing into the lent tables; `level` is the number of the open level. Notes in `places`
 /// the first byte of each process row. A refusal leaves the tables zero.
 pub fn read(
@@ -218,28 +151,21 @@ pub fn read_with_scope(
     ensures never_20_or_23 { IfOk result (λ k. Never20Or23 (rows_in_use k types.new processes.new terms.new)) }
     ensures kept { scope.new.count ≡ scope.old.count }
 {
-    clear_types(types);
-    clear_processes(processes);
-    clear_terms(terms);
-    clear_places(places);
+    clear(types, processes, terms, places);
     if text.len() > LONGEST {
         return Err(ListingFault::TooLong);
     }
-    match read_into(text, level, types, processes, terms, places, scope) {
-        Ok(counts) => Ok(counts),
-        Err(fault) => {
-            clear_types(types);
-            clear_processes(processes);
-            clear_terms(terms);
-            clear_places(places);
-            Err(fault)
-        }
+    let answer = read_into(text, level, types, processes, terms, places, scope);
+    if answer.is_err() {
+        clear(types, processes, terms, places);
     }
+    answer
 }
 
-/// The examples hold: what they say is the definitions' answer.
+/// How many examples there are; each of them holds: what it says is the definitions' answer.
 pub fn examples_hold() -> u16
-    ensures { Examples }
+    ensures hold { Examples }
+    ensures count { result ≡ 27 }
 {
-    0
+    27
 }

@@ -1,5 +1,5 @@
 -- Types, as rows.
-use Rattle.std.specs.Prelude.{ℕ, Bool, true, false, ◌&&◌, List, [], ◌∷◌, ◌==◌, slice_index_or}
+use Rattle.std.specs.Prelude.{ℕ, zero, suc, Bool, true, false, cond, ◌&&◌, List, [], ◌∷◌, Some, None, Option, ◌==◌, slice_index_or}
 use Rattle.rows.specs.declared.types.TypeKind.{TypeKind}
 use Rattle.rows.specs.declared.types.TypeKind.TheVariants.{Level, Chan, Sym, Dec, Enc, Sig, Ver}
 use Rattle.rows.specs.declared.types.TypeRow.{TypeRow}
@@ -33,3 +33,8 @@ plain a = record { kind = Level; level = a; count = 0; payload = 0 ∷ 0 ∷ 0 �
 -- the type in row x of a table; past its end, the plain type of level 0
 abbrev pub type_at : List TypeRow → ℕ → TypeRow
 type_at ts x = slice_index_or ts x (plain 0)
+
+-- the row of a type among the first n of a table, the last one where several are equal
+abbrev pub equal_row : List TypeRow → TypeRow → ℕ → Option ℕ
+equal_row ts t zero = None
+equal_row ts t (suc i) = cond (same_type (type_at ts i) t) (Some i) (equal_row ts t i)

@@ -1,5 +1,5 @@
-ghost use Rattle.std.specs.Prelude.{◌≡◌, ℕ, ◌+◌};
-ghost use Rattle.rows.specs.Types.{same_kind, same_list, same_type, type_at, plain, type_kind_number};
+ghost use Rattle.std.specs.Prelude.{◌≡◌, ℕ, ◌+◌, length};
+ghost use Rattle.rows.specs.Types.{same_type, equal_row, type_at, plain, type_kind_number};
 ghost use Rattle.rows.specs.Processes.{adds, process_kind_number, run_of};
 ghost use Rattle.rows.specs.Terms.{term_kind_number};
 
@@ -7,54 +7,29 @@ use crate::process::{ProcessKind, ProcessRow};
 use crate::term::{TermKind, TermRow};
 use crate::types::{TypeKind, TypeRow};
 
-impl TypeKind {
-    /// The number of the kind.
-    pub fn number(self) -> u16
-        ensures { result ≡ type_kind_number self }
-    {
-        self as u16
-    }
+// Kept: three impls, since no derive writes what a conversion gives.
+impl From<TypeKind> for u16 {
+    ghost from_gives = { λ kind n. n ≡ type_kind_number kind };
 
-    /// Whether two kinds are the same.
-    pub fn is(self, other: TypeKind) -> bool
-        ensures { result ≡ same_kind self other }
-    {
-        self as u16 == other as u16
+    fn from(kind: TypeKind) -> u16 {
+        kind as u16
     }
 }
 
-impl TermKind {
-    /// The number of the form.
-    pub fn number(self) -> u16
-        ensures { result ≡ term_kind_number self }
-    {
-        self as u16
+impl From<TermKind> for u16 {
+    ghost from_gives = { λ kind n. n ≡ term_kind_number kind };
+
+    fn from(kind: TermKind) -> u16 {
+        kind as u16
     }
 }
 
-impl ProcessKind {
-    /// The number of the kind.
-    pub fn number(self) -> u16
-        ensures { result ≡ process_kind_number self }
-    {
-        self as u16
-    }
-}
+impl From<ProcessKind> for u16 {
+    ghost from_gives = { λ kind n. n ≡ process_kind_number kind };
 
-/// Whether two lists of four numbers are equal, entry by entry.
-pub fn same_four(a: &[u16; 4], b: &[u16; 4]) -> bool
-    ensures { result ≡ same_list a.now b.now }
-{
-    if a[0] != b[0] {
-        return false;
+    fn from(kind: ProcessKind) -> u16 {
+        kind as u16
     }
-    if a[1] != b[1] {
-        return false;
-    }
-    if a[2] != b[2] {
-        return false;
-    }
-    a[3] == b[3]
 }
 
 impl TypeRow {
@@ -66,30 +41,30 @@ impl TypeRow {
             kind: TypeKind::Level,
             level,
             count: 0,
-            payload: [0, 0, 0, 0],
+            payload: [0; 4],
         }
-    }
-
-    /// Whether two types are equal: kind, level, count and payload.
-    pub fn same(&self, other: &TypeRow) -> bool
-        ensures { result ≡ same_type self.now other.now }
-    {
-        self.kind.is(other.kind)
-            && self.level == other.level
-            && self.count == other.count
-            && same_four(&self.payload, &other.payload)
     }
 
     /// The type in row `x` of a table; past its end, the plain type of level 0.
     pub fn at(table: &[TypeRow], x: u16) -> TypeRow
         ensures { result ≡ type_at table.now x }
     {
-        let i = x as usize;
-        if i < table.len() {
-            table[i]
-        } else {
-            TypeRow::plain(0)
+        table.get(x as usize).copied().unwrap_or(TypeRow::plain(0))
+    }
+
+    /// The last row of a table that is equal to the type: kind, level, count and payload.
+    // Kept: tried as `rposition`; the proof did not close, since the check does not find what the
+    // closure, a derived `==`, answered at each row.
+    pub fn last_in(&self, table: &[TypeRow]) -> Option<usize>
+        ensures { result ≡ equal_row table.now self.now (length table.now) }
+    {
+        let mut found = None;
+        for (i, t) in table.iter().enumerate() {
+            if *t == *self {
+                found = Some(i);
+            }
         }
+        found
     }
 }
 

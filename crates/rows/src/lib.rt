@@ -8,7 +8,6 @@ mod process;
 mod term;
 mod types;
 
-pub use kinds::same_four;
 pub use listing::Listing;
 pub use process::{ProcessKind, ProcessRow};
 pub use term::{TermKind, TermRow};

@@ -1,6 +1,7 @@
 /// The kind of a process row. Its number is its place in this list, from 0.
-#[derive(Clone, Copy)]
+#[derive(Clone, Copy, Debug, PartialEq, Eq, Default)]
 pub enum ProcessKind {
+    #[default]
     Stop,
     Out,
     In,
@@ -15,7 +16,7 @@ pub enum ProcessKind {
 
 /// A process row. The first child of a row is the next row; both and if have a second one, at the
 /// first one's end.
-#[derive(Clone, Copy)]
+#[derive(Clone, Copy, Debug, PartialEq, Eq, Default)]
 pub struct ProcessRow {
     pub kind: ProcessKind,
     /// how many names and variables are in scope
@@ -25,6 +26,7 @@ pub struct ProcessRow {
     /// at new, the row of the name's type
     pub ty: u16,
     /// how many parts are sent, received or opened
+    // Kept: the layout is given by a rule of the project: a count, and numbers with zeros above it.
     pub count: u16,
     /// where the run of its term rows begins
     pub first: u16,

@@ -1,7 +1,8 @@
 /// The form of a term. Its number is its place in this list, from 0.
-#[derive(Clone, Copy)]
+#[derive(Clone, Copy, Debug, PartialEq, Eq, Default)]
 pub enum TermKind {
     /// a name or variable in scope
+    #[default]
     Slot,
     /// the encryption key of a decryption key
     Ek,
@@ -17,10 +18,11 @@ pub enum TermKind {
 
 /// A term. Parts and key are earlier rows of the same run, numbered from the run's first row.
 /// Fields without a use are zero.
-#[derive(Clone, Copy)]
+#[derive(Clone, Copy, Debug, PartialEq, Eq, Default)]
 pub struct TermRow {
     pub kind: TermKind,
     pub slot: u16,
+    // Kept: the layout is given by a rule of the project: a count, and numbers with zeros above it.
     pub count: u16,
     pub parts: [u16; 4],
     pub key: u16,

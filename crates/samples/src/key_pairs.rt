@@ -1,4 +1,4 @@
-ghost use Rattle.samples.specs.Sized.{sized};
+ghost use Rattle.samples.specs.Sized.{IsSized};
 
 use crate::sample::{LEVEL, SLOT, STOP, Sample};
 use rows::{Listing, ProcessKind, ProcessRow, TermKind, TermRow, TypeKind, TypeRow};
@@ -227,7 +227,7 @@ static SIGNED_TERMS: [TermRow; 25] = [
 
 /// A session key is sent under the receiver's encryption key and signed by the sender.
 pub fn signed_key_transport() -> Sample
-    ensures { sized result 5 15 25 }
+    ensures { IsSized result 5 15 25 }
 {
     Sample {
         name: "signed key transport",
@@ -440,7 +440,7 @@ static TRUSTED_TERMS: [TermRow; 20] = [
 /// The receiver passes on what it decrypts as a key, though anybody may have encrypted it: refused with
 /// 31 in the second reading, at the output.
 pub fn plaintext_trusted() -> Sample
-    ensures { sized result 6 13 20 }
+    ensures { IsSized result 6 13 20 }
 {
     Sample {
         name: "plaintext trusted",
@@ -531,7 +531,7 @@ static PUBLISHED_TERMS: [TermRow; 7] = [
 
 /// The signature of a secret is published: refused with 31 at its output.
 pub fn secret_signature_published() -> Sample
-    ensures { sized result 3 5 7 }
+    ensures { IsSized result 3 5 7 }
 {
     Sample {
         name: "secret signature published",

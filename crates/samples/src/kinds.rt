@@ -1,4 +1,4 @@
-ghost use Rattle.samples.specs.Sized.{sized};
+ghost use Rattle.samples.specs.Sized.{IsSized};
 
 use crate::sample::{LEVEL, SLOT, STOP, Sample};
 use rows::{Listing, ProcessKind, ProcessRow, TermKind, TermRow, TypeKind, TypeRow};
@@ -244,7 +244,7 @@ static KINDS_TERMS: [TermRow; 27] = [
 
 /// One row of every kind, and every form of term.
 pub fn every_kind_of_row() -> Sample
-    ensures { sized result 5 17 27 }
+    ensures { IsSized result 5 17 27 }
 {
     Sample {
         name: "every kind of row",

@@ -8,6 +8,7 @@ pub struct Sample {
 }
 
 // Rows with zeros, which the tables fill in where a field has a use.
+// Kept: zeros written out, since the value of a constant can call no function, not even `default`.
 
 pub(crate) const LEVEL: TypeRow = TypeRow {
     kind: TypeKind::Level,

@@ -1,4 +1,4 @@
-ghost use Rattle.samples.specs.Sized.{sized};
+ghost use Rattle.samples.specs.Sized.{IsSized};
 
 use crate::sample::{LEVEL, SLOT, STOP, Sample};
 use rows::{Listing, ProcessKind, ProcessRow, TermKind, TermRow, TypeKind, TypeRow};
@@ -171,7 +171,7 @@ static TRANSPORT_TERMS: [TermRow; 14] = [
 
 /// A session key is sent under a long-term key, and a secret under the session key.
 pub fn key_transport() -> Sample
-    ensures { sized result 4 14 14 }
+    ensures { IsSized result 4 14 14 }
 {
     Sample {
         name: "key transport",
@@ -314,7 +314,7 @@ static CLEAR_TERMS: [TermRow; 10] = [
 
 /// The session key is sent in the clear: refused with 31 at the output of the key.
 pub fn key_in_the_clear() -> Sample
-    ensures { sized result 4 13 10 }
+    ensures { IsSized result 4 13 10 }
 {
     Sample {
         name: "key in the clear",

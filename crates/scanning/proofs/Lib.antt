@@ -1,2 +1,2 @@
-pub mod Clamp
 pub mod Newest
+pub mod Slots

@@ -1,17 +1,15 @@
 -- The grammar's own words, which name nothing else.
-use Rattle.std.specs.Prelude.{ℕ, Bool, true, false, cond, ◌||◌, List, is_some, Some, None, codes, Option}
+use Rattle.std.specs.Prelude.{ℕ, Bool, cond, ◌||◌, List, is_some, Some, None, codes, Option}
 use Rattle.std.specs.Str.{bytes_eq}
 use Rattle.rows.specs.declared.types.TypeKind.{TypeKind}
 use Rattle.rows.specs.declared.types.TypeKind.TheVariants.{Level, Chan, Sym, Dec, Enc, Sig, Ver}
 use Rattle.rows.specs.declared.term.TermKind.TheVariants.{Ek, Vk, Senc, Aenc, Sign}
 use Rattle.rows.specs.declared.process.ProcessKind.{ProcessKind}
-use Rattle.rows.specs.declared.process.ProcessKind.TheVariants.{Sopen, Aopen, Verify}
+use Rattle.rows.specs.declared.process.ProcessKind.TheVariants.{Stop, Out, In, New, Both, Again, If, Sopen, Aopen, Verify}
 use Rattle.words.specs.declared.token.Mark.TheVariants.{Open, Bang}
 use Rattle.words.specs.declared.token.Span.{Span}
 use Rattle.scanning.specs.declared.vocabulary.Head.{Head}
-use Rattle.scanning.specs.declared.vocabulary.Head.TheVariants.{Name, KeyOf, Under, Reserved}
-use Rattle.scanning.specs.declared.vocabulary.First.{First}
-use Rattle.scanning.specs.declared.vocabulary.First.TheVariants.{Stop, New, Out, In, Again, Both, If, Opening, Other}
+use Rattle.scanning.specs.declared.vocabulary.Head.TheVariants.{Name, KeyOf, Under}
 use Rattle.scanning.specs.Spelling.{is_mark, is_word, bytes_of}
 
 -- the kinds of types
@@ -25,35 +23,17 @@ type_kind w =
     (cond (bytes_eq w (codes "sig")) (Some Sig)
     (cond (bytes_eq w (codes "ver")) (Some Ver) None))))))
 
-abbrev pub opening : List ℕ → Option ProcessKind
-opening w =
-    cond (bytes_eq w (codes "sopen")) (Some Sopen)
-    (cond (bytes_eq w (codes "aopen")) (Some Aopen)
-    (cond (bytes_eq w (codes "verify")) (Some Verify) None))
-
-abbrev pub opens : Option ProcessKind → First
-opens None = Other
-opens (Some kind) = Opening kind
-
--- what process a word begins
-abbrev pub process_word : List ℕ → First
+-- what process a word begins, if any
+abbrev pub process_word : List ℕ → Option ProcessKind
 process_word w =
-    cond (bytes_eq w (codes "stop")) Stop
-    (cond (bytes_eq w (codes "new")) New
-    (cond (bytes_eq w (codes "out")) Out
-    (cond (bytes_eq w (codes "in")) In
-    (cond (bytes_eq w (codes "if")) If (opens (opening w))))))
-
-abbrev pub begins_one : First → Bool
-begins_one Stop = true
-begins_one New = true
-begins_one Out = true
-begins_one In = true
-begins_one Again = true
-begins_one Both = true
-begins_one If = true
-begins_one (Opening kind) = true
-begins_one Other = false
+    cond (bytes_eq w (codes "stop")) (Some Stop)
+    (cond (bytes_eq w (codes "new")) (Some New)
+    (cond (bytes_eq w (codes "out")) (Some Out)
+    (cond (bytes_eq w (codes "in")) (Some In)
+    (cond (bytes_eq w (codes "if")) (Some If)
+    (cond (bytes_eq w (codes "sopen")) (Some Sopen)
+    (cond (bytes_eq w (codes "aopen")) (Some Aopen)
+    (cond (bytes_eq w (codes "verify")) (Some Verify) None)))))))
 
 -- the words that begin neither a type, a term nor a process
 abbrev pub particle : List ℕ → Bool
@@ -61,21 +41,21 @@ particle w = bytes_eq w (codes "type") || bytes_eq w (codes "free") || bytes_eq 
 
 -- the grammar's own words that begin no term
 abbrev pub reserved : List ℕ → Bool
-reserved w = particle w || is_some (type_kind w) || begins_one (process_word w)
+reserved w = particle w || is_some (type_kind w) || is_some (process_word w)
 
--- what the first word of a term says
-abbrev pub head : List ℕ → Head
+-- what the first word of a term says, unless it is a word of the grammar that begins no term
+abbrev pub head : List ℕ → Option Head
 head w =
-    cond (bytes_eq w (codes "ek")) (KeyOf Ek)
-    (cond (bytes_eq w (codes "vk")) (KeyOf Vk)
-    (cond (bytes_eq w (codes "senc")) (Under Senc)
-    (cond (bytes_eq w (codes "aenc")) (Under Aenc)
-    (cond (bytes_eq w (codes "sign")) (Under Sign)
-    (cond (reserved w) Reserved Name)))))
+    cond (bytes_eq w (codes "ek")) (Some (KeyOf Ek))
+    (cond (bytes_eq w (codes "vk")) (Some (KeyOf Vk))
+    (cond (bytes_eq w (codes "senc")) (Some (Under Senc))
+    (cond (bytes_eq w (codes "aenc")) (Some (Under Aenc))
+    (cond (bytes_eq w (codes "sign")) (Some (Under Sign))
+    (cond (reserved w) None (Some Name))))))
 
--- how a process begins
-abbrev pub first : List ℕ → Span → First
+-- which process begins so, if one does
+abbrev pub first : List ℕ → Span → Option ProcessKind
 first text l =
-    cond (is_mark Open l.token) Both
-    (cond (is_mark Bang l.token) Again
-    (cond (is_word l.token) (process_word (bytes_of text l)) Other))
+    cond (is_mark Open l.token) (Some Both)
+    (cond (is_mark Bang l.token) (Some Again)
+    (cond (is_word l.token) (process_word (bytes_of text l)) None))

@@ -5,7 +5,7 @@ ghost use Rattle.scanning.specs.Faults.{listing_number, listing_place};
 use words::WordFault;
 
 /// Why a text is no listing, with the place where the fault begins.
-#[derive(Clone, Copy)]
+#[derive(Clone, Copy, Debug, PartialEq, Eq)]
 pub enum ListingFault {
     /// a text over 32,768 bytes
     TooLong,
@@ -29,6 +29,7 @@ impl From<WordFault> for ListingFault {
 
 impl ListingFault {
     /// The number by which the fault is reported.
+    // Kept: a match, since `as` takes no enum whose cases carry values.
     pub fn number(self) -> u16
         ensures { result ≡ listing_number self }
     {
@@ -48,9 +49,8 @@ impl ListingFault {
         match self {
             ListingFault::TooLong => 32768,
             ListingFault::Word(w) => w.place(),
-            ListingFault::Grammar(place) => place,
-            ListingFault::Name(place) => place,
-            ListingFault::Limit(place) => place,
+            ListingFault::Grammar(place) | ListingFault::Name(place) | ListingFault::Limit(place) =>
+                place,
         }
     }
 }

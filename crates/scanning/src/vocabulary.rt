@@ -1,12 +1,12 @@
 ghost use Rattle.std.specs.Prelude.{◌≡◌};
-ghost use Rattle.scanning.specs.Vocabulary.{type_kind, opening, process_word, particle, reserved, head, first};
+ghost use Rattle.scanning.specs.Vocabulary.{type_kind, process_word, particle, reserved, head, first};
 
-use crate::spelling::{is_mark, is_text, is_word, spell};
+use crate::spelling::spell;
 use rows::{ProcessKind, TermKind, TypeKind};
-use words::{Mark, Span};
+use words::{Mark, Span, Token};
 
 /// What the first word of a term says.
-#[derive(Clone, Copy)]
+#[derive(Clone, Copy, Debug, PartialEq, Eq)]
 pub enum Head {
     /// a name
     Name,
@@ -14,82 +14,38 @@ pub enum Head {
     KeyOf(TermKind),
     /// parts under a key: senc, aenc or sign
     Under(TermKind),
-    /// a word of the grammar that begins no term
-    Reserved,
-}
-
-/// How a process begins.
-#[derive(Clone, Copy)]
-pub enum First {
-    Stop,
-    New,
-    Out,
-    In,
-    Again,
-    Both,
-    If,
-    /// sopen, aopen or verify
-    Opening(ProcessKind),
-    /// no process begins so
-    Other,
 }
 
 /// The kind of type that a word stands for.
 pub fn type_kind(w: &[u8]) -> Option<TypeKind>
     ensures { result ≡ type_kind w.now }
 {
-    if is_text(w, b"level") {
-        Some(TypeKind::Level)
-    } else if is_text(w, b"chan") {
-        Some(TypeKind::Chan)
-    } else if is_text(w, b"sym") {
-        Some(TypeKind::Sym)
-    } else if is_text(w, b"dec") {
-        Some(TypeKind::Dec)
-    } else if is_text(w, b"enc") {
-        Some(TypeKind::Enc)
-    } else if is_text(w, b"sig") {
-        Some(TypeKind::Sig)
-    } else if is_text(w, b"ver") {
-        Some(TypeKind::Ver)
-    } else {
-        None
-    }
-}
-
-fn opening(w: &[u8]) -> Option<ProcessKind>
-    ensures { result ≡ opening w.now }
-{
-    if is_text(w, b"sopen") {
-        Some(ProcessKind::Sopen)
-    } else if is_text(w, b"aopen") {
-        Some(ProcessKind::Aopen)
-    } else if is_text(w, b"verify") {
-        Some(ProcessKind::Verify)
-    } else {
-        None
+    match w {
+        b"level" => Some(TypeKind::Level),
+        b"chan" => Some(TypeKind::Chan),
+        b"sym" => Some(TypeKind::Sym),
+        b"dec" => Some(TypeKind::Dec),
+        b"enc" => Some(TypeKind::Enc),
+        b"sig" => Some(TypeKind::Sig),
+        b"ver" => Some(TypeKind::Ver),
+        _ => None,
     }
 }
 
 // What process a word begins.
-fn process_word(w: &[u8]) -> First
+fn process_word(w: &[u8]) -> Option<ProcessKind>
     ensures { result ≡ process_word w.now }
 {
-    if is_text(w, b"stop") {
-        First::Stop
-    } else if is_text(w, b"new") {
-        First::New
-    } else if is_text(w, b"out") {
-        First::Out
-    } else if is_text(w, b"in") {
-        First::In
-    } else if is_text(w, b"if") {
-        First::If
-    } else {
-        match opening(w) {
-            Some(kind) => First::Opening(kind),
-            None => First::Other,
-        }
+    match w {
+        b"stop" => Some(ProcessKind::Stop),
+        b"new" => Some(ProcessKind::New),
+        b"out" => Some(ProcessKind::Out),
+        b"in" => Some(ProcessKind::In),
+        b"if" => Some(ProcessKind::If),
+        b"sopen" => Some(ProcessKind::Sopen),
+        b"aopen" => Some(ProcessKind::Aopen),
+        b"verify" => Some(ProcessKind::Verify),
+        _ => None,
     }
 }
 
@@ -97,64 +53,42 @@ fn process_word(w: &[u8]) -> First
 fn is_particle(w: &[u8]) -> bool
     ensures { result ≡ particle w.now }
 {
-    is_text(w, b"type")
-        || is_text(w, b"free")
-        || is_text(w, b"then")
-        || is_text(w, b"else")
-        || is_text(w, b"as")
-        || is_text(w, b"with")
-        || is_text(w, b"open")
+    matches!(
+        w,
+        b"type" | b"free" | b"then" | b"else" | b"as" | b"with" | b"open"
+    )
 }
 
 // Whether a word is the grammar's own, and begins no term.
 fn is_reserved(w: &[u8]) -> bool
     ensures { result ≡ reserved w.now }
 {
-    if is_particle(w) {
-        return true;
-    }
-    if type_kind(w).is_some() {
-        return true;
-    }
-    match process_word(w) {
-        First::Other => false,
-        _ => true,
-    }
+    is_particle(w) || type_kind(w).is_some() || process_word(w).is_some()
 }
 
-/// What the first word of a term says.
-pub fn head_of(w: &[u8]) -> Head
+/// What the first word of a term says. No term begins with another of the grammar's own words.
+pub fn head_of(w: &[u8]) -> Option<Head>
     ensures { result ≡ head w.now }
 {
-    if is_text(w, b"ek") {
-        Head::KeyOf(TermKind::Ek)
-    } else if is_text(w, b"vk") {
-        Head::KeyOf(TermKind::Vk)
-    } else if is_text(w, b"senc") {
-        Head::Under(TermKind::Senc)
-    } else if is_text(w, b"aenc") {
-        Head::Under(TermKind::Aenc)
-    } else if is_text(w, b"sign") {
-        Head::Under(TermKind::Sign)
-    } else if is_reserved(w) {
-        Head::Reserved
-    } else {
-        Head::Name
+    match w {
+        b"ek" => Some(Head::KeyOf(TermKind::Ek)),
+        b"vk" => Some(Head::KeyOf(TermKind::Vk)),
+        b"senc" => Some(Head::Under(TermKind::Senc)),
+        b"aenc" => Some(Head::Under(TermKind::Aenc)),
+        b"sign" => Some(Head::Under(TermKind::Sign)),
+        _ if is_reserved(w) => None,
+        _ => Some(Head::Name),
     }
 }
 
-/// How a process begins.
-pub fn first_of(text: &[u8], l: Span) -> First
-    ensures { result ≡ first text.now l }
+/// Which process begins so, if one does.
+pub fn first_of(text: &[u8], span: Span) -> Option<ProcessKind>
+    ensures { result ≡ first text.now span }
 {
-    if is_mark(l.token, Mark::Open) {
-        return First::Both;
+    match span.token {
+        Token::Single(Mark::Open) => Some(ProcessKind::Both),
+        Token::Single(Mark::Bang) => Some(ProcessKind::Again),
+        Token::Word => process_word(spell(text, span)),
+        _ => None,
     }
-    if is_mark(l.token, Mark::Bang) {
-        return First::Again;
-    }
-    if !is_word(l.token) {
-        return First::Other;
-    }
-    process_word(spell(text, l.start, l.end))
 }

@@ -1,11 +1,23 @@
--- One more row looked at, where the enclosing aopen rows are counted.
-use Rattle.std.proofs.Common.{◌≡◌, ℕ, ◌+◌, true, false, cond, List, sym, ap, ◌∙◌, ap₂, add-one, arith}
+-- The enclosing aopen rows, as a count over the rows above.
+use Rattle.std.proofs.Common.{◌≡◌, ℕ, zero, suc, ◌+◌, ◌<◌, ◌≤◌, Bool, cond, ◌&&◌, ltb, List, length, count_by, take, sym, refl, ap, ◌∙◌, add-one, arith}
+use Rattle.std.proofs.lemmas.Bool.Decides.{nat_tests}
+use Rattle.std.proofs.lemmas.List.Sums.{count_by_more_yes, count_by_more_no}
 use Rattle.rows.specs.declared.process.ProcessRow.{ProcessRow}
-use Rattle.shape.specs.Depth.{encloses, enclosing_below}
+use Rattle.shape.specs.Depth.{is_aopen, encloses, enclosing_below, enclosing}
 
-module _ (ps : List ProcessRow) (i t n : ℕ) (was : n ≡ enclosing_below ps i t) where
-  pub count_one : encloses ps i t ≡ true → n + 1 ≡ enclosing_below ps i (t + 1)
-  count_one e = ap₂ (λ x b. x + cond b 1 0) was (sym e) ∙ sym (ap (enclosing_below ps i) (add-one t))
+-- an aopen whose process has the row i in it
+abbrev pub is_around : ℕ → ProcessRow → Bool
+is_around i p = is_aopen p.kind && ltb i p.«end»
 
-  pub count_no : encloses ps i t ≡ false → n ≡ enclosing_below ps i (t + 1)
-  count_no e = let z : n ≡ n + 0 = omega arith in z ∙ ap₂ (λ x b. x + cond b 1 0) was (sym e) ∙ sym (ap (enclosing_below ps i) (add-one t))
+more : (ps : List ProcessRow) (i t : ℕ) → t < length ps → count_by (is_around i) (take (t + 1) ps) ≡ count_by (is_around i) (take t ps) + cond (encloses ps i t) 1 0
+more ps i t h = grind (arith, nat_tests, count_by_more_yes, count_by_more_no)
+
+below_is : (ps : List ProcessRow) (i t : ℕ) → t ≤ length ps → enclosing_below ps i t ≡ count_by (is_around i) (take t ps)
+below_is ps i zero h = refl
+below_is ps i (suc t) h =
+    ap (λ n. n + cond (encloses ps i t) 1 0) (below_is ps i t (omega arith))
+    ∙ sym (more ps i t (omega arith))
+    ∙ ap (λ n. count_by (is_around i) (take n ps)) (add-one t)
+
+pub enclosing_is : (ps : List ProcessRow) (i : ℕ) → i < length ps → enclosing ps i ≡ count_by (is_around i) (take i ps)
+enclosing_is ps i h = below_is ps i i (omega arith)

@@ -9,5 +9,4 @@ pub mod Counting
 pub mod FitRest
 pub mod RunRest
 pub mod Repeated
-pub mod Outcome
 pub mod TypeRead

@@ -2,7 +2,7 @@ ghost use Rattle.std.specs.Prelude.{◌≡◌};
 ghost use Rattle.shape.specs.Fault.{shape_number, shape_row};
 
 /// Why tables are out of shape, with the row at fault.
-#[derive(Clone, Copy)]
+#[derive(Clone, Copy, Debug, PartialEq, Eq)]
 pub enum ShapeFault {
     /// no type or process row, or a table over its limit
     Size,
@@ -21,6 +21,7 @@ impl ShapeFault {
     pub fn number(self) -> u16
         ensures { result ≡ shape_number self }
     {
+        // Kept: a match, since `as` takes no enum whose cases carry values.
         match self {
             ShapeFault::Size => 20,
             ShapeFault::Types(_) => 21,
@@ -36,10 +37,10 @@ impl ShapeFault {
     {
         match self {
             ShapeFault::Size => 0,
-            ShapeFault::Types(row) => row,
-            ShapeFault::Processes(row) => row,
-            ShapeFault::Terms(row) => row,
-            ShapeFault::Depth(row) => row,
+            ShapeFault::Types(row)
+            | ShapeFault::Processes(row)
+            | ShapeFault::Terms(row)
+            | ShapeFault::Depth(row) => row,
         }
     }
 }

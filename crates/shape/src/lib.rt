@@ -4,6 +4,8 @@
 
 mod depth;
 mod fault;
+mod first;
+mod node;
 mod numbers;
 mod process_shape;
 mod term_shape;

@@ -1,9 +1,11 @@
-ghost use Rattle.std.specs.Prelude.{◌≡◌, ◌+◌, ◌<◌, ◌≤◌, length};
+ghost use Rattle.std.specs.Prelude.{◌≡◌, true, false, MatchOption};
 ghost use Rattle.rows.specs.Processes.{row};
 ghost use Rattle.rows.specs.Tables.{tables};
 ghost use Rattle.shape.specs.Processes.{nameable, ty_ok, process_count_ok, operand_count, operands_ok, run_start, run_ok, child_ok, one_ok, two_ok, family_ok, process_ok, processes_shape};
 
 use crate::fault::ShapeFault;
+use crate::first::all_fit;
+use crate::node::Node;
 use crate::numbers::{is_one_to_four, numbers_fit};
 use rows::{Listing, ProcessKind, ProcessRow, TypeKind, TypeRow};
 
@@ -11,28 +13,19 @@ use rows::{Listing, ProcessKind, ProcessRow, TypeKind, TypeRow};
 fn is_nameable(kind: TypeKind) -> bool
     ensures { result ≡ nameable kind }
 {
-    match kind {
-        TypeKind::Level | TypeKind::Chan | TypeKind::Sym | TypeKind::Dec | TypeKind::Sig => true,
-        TypeKind::Enc | TypeKind::Ver => false,
-    }
+    !matches!(kind, TypeKind::Enc | TypeKind::Ver)
 }
 
 // New has a type that a name may have, and no other row has one.
 fn type_fits(types: &[TypeRow], p: ProcessRow) -> bool
     ensures { result ≡ ty_ok types.now p p.kind }
 {
-    match p.kind {
-        ProcessKind::New => (p.ty as usize) < types.len()
-            && is_nameable(TypeRow::at(types, p.ty).kind),
-        ProcessKind::Stop
-        | ProcessKind::Out
-        | ProcessKind::In
-        | ProcessKind::Both
-        | ProcessKind::Again
-        | ProcessKind::If
-        | ProcessKind::Sopen
-        | ProcessKind::Aopen
-        | ProcessKind::Verify => p.ty == 0,
+    if p.kind == ProcessKind::New {
+        types
+            .get(p.ty as usize)
+            .is_some_and(|ty| is_nameable(ty.kind))
+    } else {
+        p.ty == 0
     }
 }
 
@@ -71,98 +64,96 @@ fn operands_fit(p: ProcessRow) -> bool
     numbers_fit(&p.operands, operands_of(p), p.terms as usize)
 }
 
-// Where the run of row `i` has to begin: where the run before it ends.
-fn run_begins(rows: &[ProcessRow], i: usize) -> usize
-    requires { i < length rows.now }
-    ensures { result ≡ run_start rows.now i }
-{
-    if i == 0 {
-        0
-    } else {
-        let before = rows[i - 1];
-        before.first as usize + before.terms as usize
+impl Node<'_> {
+    // Where the run has to begin: where the run before it ends.
+    fn run_begins(&self) -> usize
+        ensures { result ≡ run_start self.now.listing.processes.now self.now.i }
+    {
+        match self.rows_above().last() {
+            Some(before) => before.first as usize + before.terms as usize,
+            None => 0,
+        }
     }
-}
 
-// Runs follow one another without gaps, the last to the table's end; a row without operands has none.
-fn run_fits(l: Listing, i: usize) -> bool
-    requires { i < length l.processes.now }
-    ensures { result ≡ run_ok (tables l.entry) i }
-{
-    let p = l.processes[i];
-    if p.first as usize != run_begins(l.processes, i) {
-        return false;
+    // Runs follow one another without gaps, the last to the table's end; a row without operands has none.
+    fn run_fits(&self) -> bool
+        ensures { result ≡ run_ok (tables self.now.listing) self.now.i }
+    {
+        let p = self.row();
+        let ends = p.first as usize + p.terms as usize;
+        p.first as usize == self.run_begins()
+            && (operands_of(p) != 0 || p.terms == 0)
+            && (self.next() != self.listing.processes.len() || ends == self.listing.terms.len())
     }
-    if operands_of(p) == 0 && p.terms != 0 {
-        return false;
+
+    // Row `j`, if it is in the table with the slots of this row and those that it adds.
+    fn child(&self, j: usize) -> Option<ProcessRow>
+        ensures { MatchOption result
+            (child_ok self.now.listing.processes.now self.now.i j ≡ false)
+            (λ child. (child_ok self.now.listing.processes.now self.now.i j ≡ true)
+            × (child ≡ row self.now.listing.processes.now j)) }
+    {
+        let p = self.row();
+        let slots = p.slots as usize + p.added() as usize;
+        match self.listing.processes.get(j) {
+            Some(child) if child.slots as usize == slots => Some(*child),
+            _ => None,
+        }
     }
-    i + 1 != l.processes.len() || p.first as usize + p.terms as usize == l.terms.len()
-}
 
-// Row `j` is in the table, with the slots of row `i` and those that it adds.
-fn child_fits(rows: &[ProcessRow], i: usize, j: usize) -> bool
-    requires { i < length rows.now }
-    ensures { result ≡ child_ok rows.now i j }
-{
-    j < rows.len() && rows[j].slots as usize == rows[i].slots as usize + rows[i].added() as usize
-}
-
-fn one_child(rows: &[ProcessRow], i: usize) -> bool
-    requires { i < length rows.now }
-    ensures { result ≡ one_ok rows.now i }
-{
-    child_fits(rows, i, i + 1) && rows[i + 1].end == rows[i].end
-}
-
-fn two_children(rows: &[ProcessRow], i: usize) -> bool
-    requires { i < length rows.now }
-    ensures { result ≡ two_ok rows.now i }
-{
-    if !child_fits(rows, i, i + 1) {
-        return false;
+    fn one_child(&self) -> bool
+        ensures { result ≡ one_ok self.now.listing.processes.now self.now.i }
+    {
+        let end = self.row().end;
+        self.child(self.next())
+            .is_some_and(|child| child.end == end)
     }
-    let second = rows[i + 1].end as usize;
-    child_fits(rows, i, second) && rows[second].end == rows[i].end
-}
 
-fn family_fits(rows: &[ProcessRow], i: usize) -> bool
-    requires { i < length rows.now }
-    ensures { result ≡ family_ok rows.now i (row rows.now i).kind }
-{
-    match rows[i].kind {
-        ProcessKind::Stop => rows[i].end as usize == i + 1,
-        ProcessKind::Both | ProcessKind::If => two_children(rows, i),
-        ProcessKind::Out
-        | ProcessKind::In
-        | ProcessKind::New
-        | ProcessKind::Again
-        | ProcessKind::Sopen
-        | ProcessKind::Aopen
-        | ProcessKind::Verify => one_child(rows, i),
+    fn two_children(&self) -> bool
+        ensures { result ≡ two_ok self.now.listing.processes.now self.now.i }
+    {
+        let Some(first) = self.child(self.next()) else {
+            return false;
+        };
+        let end = self.row().end;
+        self.child(first.end as usize)
+            .is_some_and(|second| second.end == end)
     }
-}
 
-fn process_fits(l: Listing, i: usize) -> bool
-    requires { i < length l.processes.now }
-    ensures { result ≡ process_ok (tables l.entry) i }
-{
-    let p = l.processes[i];
-    type_fits(l.types, p)
-        && count_fits(p)
-        && operands_fit(p)
-        && run_fits(l, i)
-        && p.slots <= 32
-        && family_fits(l.processes, i)
-        && (i != 0 || p.end as usize == l.processes.len())
+    fn family_fits(&self) -> bool
+        ensures { result
+            ≡ family_ok self.now.listing.processes.now self.now.i (row self.now.listing.processes.now self.now.i).kind }
+    {
+        let p = self.row();
+        match p.kind {
+            ProcessKind::Stop => p.end as usize == self.next(),
+            ProcessKind::Both | ProcessKind::If => self.two_children(),
+            ProcessKind::Out
+            | ProcessKind::In
+            | ProcessKind::New
+            | ProcessKind::Again
+            | ProcessKind::Sopen
+            | ProcessKind::Aopen
+            | ProcessKind::Verify => self.one_child(),
+        }
+    }
+
+    fn fits(&self) -> bool
+        ensures { result ≡ process_ok (tables self.now.listing) self.now.i }
+    {
+        let p = self.row();
+        type_fits(self.listing.types, p)
+            && count_fits(p)
+            && operands_fit(p)
+            && self.run_fits()
+            && p.slots <= 32
+            && self.family_fits()
+            && (self.i != 0 || p.end as usize == self.listing.processes.len())
+    }
 }
 
 pub(crate) fn processes_in_shape(l: Listing) -> Result<(), ShapeFault>
     ensures { result ≡ processes_shape (tables l.entry) }
 {
-    for i in 0..l.processes.len() {
-        if !process_fits(l, i) {
-            return Err(ShapeFault::Processes(i));
-        }
-    }
-    Ok(())
+    all_fit(l.processes.len(), |i| Node::of(l, i).fits()).map_err(ShapeFault::Processes)
 }

@@ -1,9 +1,9 @@
-ghost use Rattle.std.specs.Prelude.{◌≡◌, ◌<◌, ◌≤◌, length};
+ghost use Rattle.std.specs.Prelude.{◌≡◌};
 ghost use Rattle.rows.specs.Processes.{run_of};
-ghost use Rattle.rows.specs.Tables.{tables};
 ghost use Rattle.shape.specs.Terms.{part_ok, parts_ok, term_ok, run_shape, terms_shape};
 
 use crate::fault::ShapeFault;
+use crate::first::all_fit;
 use crate::numbers::{is_one_to_four, numbers_fit};
 use rows::{Listing, ProcessRow, TermKind, TermRow};
 
@@ -46,14 +46,11 @@ fn run_in_shape(terms: &[TermRow], p: ProcessRow) -> Result<(), ShapeFault>
     ensures { result ≡ run_shape p.slots p.first 0 (run_of terms.now p) }
 {
     let run = p.run(terms);
-    for j in 0..run.len() {
-        if !term_fits(run[j], j, p.slots) {
-            return Err(ShapeFault::Terms(p.first as usize + j));
-        }
-    }
-    Ok(())
+    let from = p.first as usize;
+    all_fit(run.len(), |j| term_fits(run[j], j, p.slots)).map_err(|j| ShapeFault::Terms(from + j))
 }
 
+#[tactic(auto, using(crate::proofs::RunRest::runs_step))]
 pub(crate) fn terms_in_shape(l: Listing) -> Result<(), ShapeFault>
     ensures { result ≡ terms_shape l.entry.terms.now l.entry.processes.now }
 {

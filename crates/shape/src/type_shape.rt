@@ -1,9 +1,9 @@
-ghost use Rattle.std.specs.Prelude.{◌≡◌, ◌<◌, ◌≤◌, length};
+ghost use Rattle.std.specs.Prelude.{◌≡◌, ◌<◌, length};
 ghost use Rattle.levels.specs.Means.{means};
-ghost use Rattle.shape.specs.Types.{level_ok, type_count_ok, repeats, type_ok, types_shape};
-ghost use Rattle.rows.specs.Types.{type_at};
+ghost use Rattle.shape.specs.Types.{level_ok, type_count_ok, type_ok, types_shape};
 
 use crate::fault::ShapeFault;
+use crate::first::all_fit;
 use crate::numbers::{is_one_to_four, numbers_fit};
 use levels::{Scheme, is_guarded, is_public, is_tainted};
 use rows::{TypeKind, TypeRow};
@@ -22,51 +22,30 @@ fn level_fits<S: Scheme>(s: &S, kind: TypeKind, level: u16) -> bool
 fn count_fits(kind: TypeKind, count: u16) -> bool
     ensures { result ≡ type_count_ok kind count }
 {
-    match kind {
-        TypeKind::Level => count == 0,
-        TypeKind::Chan
-        | TypeKind::Sym
-        | TypeKind::Dec
-        | TypeKind::Enc
-        | TypeKind::Sig
-        | TypeKind::Ver => { is_one_to_four(count) }
+    if kind == TypeKind::Level {
+        count == 0
+    } else {
+        is_one_to_four(count)
     }
 }
 
-// Whether the type equals one of the first `n` rows.
-fn is_repeated(types: &[TypeRow], t: &TypeRow, n: usize) -> bool
-    requires { n ≤ length types.now }
-    ensures { result ≡ repeats types.now t.now n }
-{
-    for k in 0..n {
-        if types[k].same(t) {
-            return true;
-        }
-    }
-    false
-}
-
+// Kept: scheme and types meet in these two functions alone; the typing rules' struct of both stands above this crate, and one for two functions is no plainer.
 fn type_fits<S: Scheme>(s: &S, types: &[TypeRow], i: usize) -> bool
     requires { i < length types.now }
     ensures { result ≡ type_ok (means S.Scheme s.now) types.now i }
 {
     let t = types[i];
     if i == 0 {
-        return t.same(&TypeRow::plain(s.open()));
+        return t == TypeRow::plain(s.open());
     }
     level_fits(s, t.kind, t.level)
         && count_fits(t.kind, t.count)
         && numbers_fit(&t.payload, t.count as usize, i)
-        && !is_repeated(types, &t, i)
+        && !types[..i].contains(&t)
 }
 
 pub(crate) fn types_in_shape<S: Scheme>(s: &S, types: &[TypeRow]) -> Result<(), ShapeFault>
     ensures { result ≡ types_shape (means S.Scheme s.now) types.now }
 {
-    for i in 0..types.len() {
-        if !type_fits(s, types, i) {
-            return Err(ShapeFault::Types(i));
-        }
-    }
-    Ok(())
+    all_fit(types.len(), |i| type_fits(s, types, i)).map_err(ShapeFault::Types)
 }

@@ -16,13 +16,14 @@ use rows::Listing;
 fn sizes_fit(l: Listing) -> bool
     ensures { result ≡ sized (tables l.entry) }
 {
-    let types = l.types.len();
-    let processes = l.processes.len();
-    0 < types && types <= 64 && 0 < processes && processes <= 512 && l.terms.len() <= 2048
+    (1..=64).contains(&l.types.len())
+        && (1..=512).contains(&l.processes.len())
+        && l.terms.len() <= 2048
 }
 
 /// The shape test: sizes first, then types, process rows, term rows and depth, lowest row first.
 /// The process rows of tables in shape are a tree.
+#[tactic(auto, unfolding(crate::specs::Whole::shape))]
 pub fn in_shape<S: Scheme>(s: &S, l: Listing) -> Result<(), ShapeFault>
     ensures says { result ≡ shape (means S.Scheme s.now) (tables l.entry) }
     ensures tree { result ≡ Ok tt → Tree (tables l.entry).processes }
@@ -33,5 +34,5 @@ pub fn in_shape<S: Scheme>(s: &S, l: Listing) -> Result<(), ShapeFault>
     types_in_shape(s, l.types)?;
     processes_in_shape(l)?;
     terms_in_shape(l)?;
-    depth_in_shape(l.processes)
+    depth_in_shape(l)
 }

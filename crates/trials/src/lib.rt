@@ -9,6 +9,8 @@ mod party_levels;
 #[cfg(test)]
 mod protocols;
 #[cfg(test)]
+mod settings;
+#[cfg(test)]
 mod shapes;
 #[cfg(test)]
 mod shortcuts;

@@ -2,6 +2,7 @@ use crate::tables::{acts, bare, declared, level, listing, new, slot};
 use crate::verdicts::{accepts, refuses};
 use levels::FourLevels;
 use rows::{ProcessKind, ProcessRow, TermRow, TypeKind, TypeRow};
+use std::array::from_fn;
 use std::process::Abort;
 use std::test::Fail;
 
@@ -45,33 +46,26 @@ fn sizes_are_limited(rt: HostRuntime) -> Result<(), Fail> {
 // type y = dec 2 (s);
 // free c;
 // new d : y . and then aopen c as (a) with d (or c), so many times one in another, . stop
+// No test reads the rows past the stop.
 fn nested(depth: u16) -> [ProcessRow; 9] {
     let end = depth.saturating_add(2);
-    let mut rows = [new(1, end, 2, 0); 9];
-    for i in 0..7u16 {
-        rows[i as usize + 1] = acts(
+    from_fn(|i| match i as u16 {
+        0 => new(1, end, 2, 0),
+        i if i > depth => bare(ProcessKind::Stop, end, end, depth.saturating_mul(2)),
+        i => acts(
             ProcessKind::Aopen,
-            i + 2,
+            i + 1,
             end,
             1,
-            [2 * i, 2],
+            [(i - 1) * 2, 2],
             [0, 1, 0, 0, 0],
-        );
-    }
-    let last = depth as usize + 1;
-    if last < 9 {
-        rows[last] = bare(ProcessKind::Stop, end, end, depth.saturating_mul(2));
-    }
-    rows
+        ),
+    })
 }
 
 // The message is c each time, and the key this slot.
 fn messages_and_keys(key: u16) -> [TermRow; 14] {
-    let mut terms = [slot(0); 14];
-    for i in 0..7 {
-        terms[2 * i + 1] = slot(key);
-    }
-    terms
+    from_fn(|i| slot(if i % 2 == 0 { 0 } else { key }))
 }
 
 #[test]

@@ -1,7 +1,7 @@
 use crate::tables::{acts, bare, declared, level, listing, made, new, slot};
 use crate::verdicts::{accepts, parties, refuses};
 use levels::{FourLevels, Parties, Scheme};
-use rows::{Listing, ProcessKind, ProcessRow, TermKind, TypeKind, TypeRow};
+use rows::{ProcessKind, TermKind, TypeKind};
 use samples::every_kind_of_row;
 use std::process::Abort;
 use std::test::Fail;
@@ -9,12 +9,12 @@ use std::test::Fail;
 #[test]
 fn other_numbers_of_parties_are_refused(rt: HostRuntime) -> Result<(), Fail> {
     for count in [0, 9, 65535] {
-        match Parties::new(count) {
-            Ok(_) => return Err(Fail::new("made")),
-            Err(fault) => assert_eq!(rt; fault.number(), 20),
-        }
+        let Err(fault) = Parties::new(count) else {
+            return Err(Fail::new("made"));
+        };
+        assert_eq!(rt; fault.number(), 20);
     }
-    for count in 1..9 {
+    for count in 1..=8 {
         parties(count)?;
     }
     Ok(())
@@ -67,42 +67,38 @@ fn published_among_eight<S: Scheme>(rt: &impl Abort, s: &S) -> Result<(), Fail> 
 // Under one scheme row 0 is the open level, and under another it is not.
 #[test]
 fn tables_are_of_their_scheme(rt: HostRuntime) -> Result<(), Fail> {
+    // a process that does nothing
+    let nothing = [bare(ProcessKind::Stop, 0, 1, 0)];
     let l = every_kind_of_row().listing;
     accepts(&rt, &FourLevels, l)?;
     refuses(&rt, &parties(2)?, l, 21, 0)?;
-    accepts(&rt, &parties(1)?, only_types(&[level(3), level(0)]))?;
-    refuses(&rt, &parties(1)?, only_types(&[level(3), level(4)]), 21, 1)?;
+    accepts(
+        &rt,
+        &parties(1)?,
+        listing(&[level(3), level(0)], &nothing, &[]),
+    )?;
+    refuses(
+        &rt,
+        &parties(1)?,
+        listing(&[level(3), level(4)], &nothing, &[]),
+        21,
+        1,
+    )?;
     refuses(
         &rt,
         &parties(3)?,
-        only_types(&[level(63), declared(TypeKind::Chan, 59, 0)]),
+        listing(&[level(63), declared(TypeKind::Chan, 59, 0)], &nothing, &[]),
         21,
         1,
     )?;
     accepts(
         &rt,
         &parties(3)?,
-        only_types(&[level(63), declared(TypeKind::Chan, 27, 0)]),
+        listing(&[level(63), declared(TypeKind::Chan, 27, 0)], &nothing, &[]),
     )?;
     accepts(
         &rt,
         &parties(3)?,
-        only_types(&[level(63), declared(TypeKind::Ver, 59, 0)]),
+        listing(&[level(63), declared(TypeKind::Ver, 59, 0)], &nothing, &[]),
     )
-}
-
-static NOTHING: [ProcessRow; 1] = [ProcessRow {
-    kind: ProcessKind::Stop,
-    slots: 0,
-    end: 1,
-    ty: 0,
-    count: 0,
-    first: 0,
-    terms: 0,
-    operands: [0; 5],
-}];
-
-// These types, and a process that does nothing.
-fn only_types<'a>(types: &'a [TypeRow]) -> Listing<'a> {
-    listing(types, &NOTHING, &[])
 }

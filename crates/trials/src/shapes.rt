@@ -33,12 +33,17 @@ fn terms() -> [TermRow; 5] {
     ]
 }
 
+// Rows with another one at a place.
+fn replaced<T: Copy, const N: usize>(mut rows: [T; N], at: usize, row: T) -> [T; N] {
+    if let Some(old) = rows.get_mut(at) {
+        *old = row;
+    }
+    rows
+}
+
 // With another type at a row, the listing is refused there.
 fn with_type(rt: &impl Abort, at: usize, t: TypeRow) -> Result<(), Fail> {
-    let mut types = types();
-    if at < 3 {
-        types[at] = t;
-    }
+    let types = replaced(types(), at, t);
     refuses(
         rt,
         &FourLevels,
@@ -76,10 +81,7 @@ fn type_out_of_shape_is_refused(rt: HostRuntime) -> Result<(), Fail> {
 
 // With another process row, the listing is refused at a row, which may be its parent.
 fn with_process(rt: &impl Abort, at: usize, p: ProcessRow, row: usize) -> Result<(), Fail> {
-    let mut processes = processes();
-    if at < 5 {
-        processes[at] = p;
-    }
+    let processes = replaced(processes(), at, p);
     refuses(
         rt,
         &FourLevels,
@@ -110,10 +112,7 @@ fn process_out_of_shape_is_refused(rt: HostRuntime) -> Result<(), Fail> {
 
 // With another term row, the listing is refused at that row of the term table.
 fn with_term(rt: &impl Abort, at: usize, t: TermRow) -> Result<(), Fail> {
-    let mut terms = terms();
-    if at < 5 {
-        terms[at] = t;
-    }
+    let terms = replaced(terms(), at, t);
     refuses(
         rt,
         &FourLevels,

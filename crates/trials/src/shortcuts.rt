@@ -1,3 +1,4 @@
+use crate::settings::{Setting, four_levels, three_parties};
 use crate::tables::{acts, bare, declared, level, listing, made, new, slot};
 use crate::uses::open_part_on_a_channel;
 use crate::verdicts::{accepts, parties, refuses};
@@ -12,17 +13,12 @@ use std::test::Fail;
 // type q = chan 2 (s);
 // free c;
 // new d : y . new h : q . in c (x) . aopen x as (a) with d . out h (a) . stop
-fn plaintext_on_a_channel<S: Scheme>(
-    rt: &impl Abort,
-    s: &S,
-    open: u16,
-    secret: u16,
-) -> Result<(), Fail> {
+fn plaintext_on_a_channel<S: Scheme>(rt: &impl Abort, s: &Setting<S>) -> Result<(), Fail> {
     let types = [
-        level(open),
-        level(secret),
-        declared(TypeKind::Dec, secret, 1),
-        declared(TypeKind::Chan, secret, 1),
+        s.open(),
+        s.secret(),
+        s.declared(TypeKind::Dec, 1),
+        s.declared(TypeKind::Chan, 1),
     ];
     let processes = [
         new(1, 6, 2, 0),
@@ -33,7 +29,7 @@ fn plaintext_on_a_channel<S: Scheme>(
         bare(ProcessKind::Stop, 5, 6, 5),
     ];
     let terms = [slot(0), slot(3), slot(1), slot(2), slot(4)];
-    refuses(rt, s, listing(&types, &processes, &terms), 31, 4)
+    refuses(rt, &s.scheme, listing(&types, &processes, &terms), 31, 4)
 }
 
 // The whole first reading goes first, though the second is refused at a lower row.
@@ -42,17 +38,12 @@ fn plaintext_on_a_channel<S: Scheme>(
 // type q = chan 2 (s);
 // free c;
 // new d : y . new h : q . in c (x) . aopen x as (a) with d . out h (a) . out c (a) . stop
-fn both_readings_refused<S: Scheme>(
-    rt: &impl Abort,
-    s: &S,
-    open: u16,
-    secret: u16,
-) -> Result<(), Fail> {
+fn both_readings_refused<S: Scheme>(rt: &impl Abort, s: &Setting<S>) -> Result<(), Fail> {
     let types = [
-        level(open),
-        level(secret),
-        declared(TypeKind::Dec, secret, 1),
-        declared(TypeKind::Chan, secret, 1),
+        s.open(),
+        s.secret(),
+        s.declared(TypeKind::Dec, 1),
+        s.declared(TypeKind::Chan, 1),
     ];
     let processes = [
         new(1, 7, 2, 0),
@@ -72,14 +63,14 @@ fn both_readings_refused<S: Scheme>(
         slot(0),
         slot(4),
     ];
-    refuses(rt, s, listing(&types, &processes, &terms), 31, 5)
+    refuses(rt, &s.scheme, listing(&types, &processes, &terms), 31, 5)
 }
 
 // An open key: one reading, with an open variable.
 // free c;
 // in c (x) . aopen x as (a) with c . out c (a) . stop
-fn plaintext_under_an_open_key<S: Scheme>(rt: &impl Abort, s: &S, open: u16) -> Result<(), Fail> {
-    let types = [level(open)];
+fn plaintext_under_an_open_key<S: Scheme>(rt: &impl Abort, s: &Setting<S>) -> Result<(), Fail> {
+    let types = [s.open()];
     let processes = [
         acts(ProcessKind::In, 1, 4, 1, [0, 1], [0, 0, 0, 0, 0]),
         acts(ProcessKind::Aopen, 2, 4, 1, [1, 2], [0, 1, 0, 0, 0]),
@@ -87,19 +78,19 @@ fn plaintext_under_an_open_key<S: Scheme>(rt: &impl Abort, s: &S, open: u16) -> 
         bare(ProcessKind::Stop, 3, 4, 5),
     ];
     let terms = [slot(0), slot(1), slot(0), slot(0), slot(2)];
-    accepts(rt, s, listing(&types, &processes, &terms))
+    accepts(rt, &s.scheme, listing(&types, &processes, &terms))
 }
 
 #[test]
 fn aopen_is_read_twice(rt: HostRuntime) -> Result<(), Fail> {
-    let three = parties(3)?;
-    plaintext_on_a_channel(&rt, &FourLevels, 1, 2)?;
-    plaintext_on_a_channel(&rt, &three, 63, 27)?;
-    both_readings_refused(&rt, &FourLevels, 1, 2)?;
-    both_readings_refused(&rt, &three, 63, 27)?;
-    plaintext_under_an_open_key(&rt, &FourLevels, 1)?;
-    plaintext_under_an_open_key(&rt, &three, 63)?;
-    Ok(())
+    let four = four_levels();
+    let three = three_parties()?;
+    plaintext_on_a_channel(&rt, &four)?;
+    plaintext_on_a_channel(&rt, &three)?;
+    both_readings_refused(&rt, &four)?;
+    both_readings_refused(&rt, &three)?;
+    plaintext_under_an_open_key(&rt, &four)?;
+    plaintext_under_an_open_key(&rt, &three)
 }
 
 // type s = level 2;
@@ -108,15 +99,9 @@ fn aopen_is_read_twice(rt: HostRuntime) -> Result<(), Fail> {
 // new m : s . new b : f . out c (sign(m; b)) . stop
 fn secret_signature_on_an_open_channel<S: Scheme>(
     rt: &impl Abort,
-    s: &S,
-    open: u16,
-    secret: u16,
+    s: &Setting<S>,
 ) -> Result<(), Fail> {
-    let types = [
-        level(open),
-        level(secret),
-        declared(TypeKind::Sig, secret, 1),
-    ];
+    let types = [s.open(), s.secret(), s.declared(TypeKind::Sig, 1)];
     let processes = [
         new(1, 4, 1, 0),
         new(2, 4, 2, 0),
@@ -124,7 +109,7 @@ fn secret_signature_on_an_open_channel<S: Scheme>(
         bare(ProcessKind::Stop, 3, 4, 4),
     ];
     let terms = [slot(0), slot(1), slot(2), made(TermKind::Sign, 1, 2)];
-    refuses(rt, s, listing(&types, &processes, &terms), 31, 2)
+    refuses(rt, &s.scheme, listing(&types, &processes, &terms), 31, 2)
 }
 
 // type g = sig 2 (open);
@@ -132,27 +117,26 @@ fn secret_signature_on_an_open_channel<S: Scheme>(
 // new b : g . out c (sign(c; b)) . stop
 fn open_signature_on_an_open_channel<S: Scheme>(
     rt: &impl Abort,
-    s: &S,
-    open: u16,
-    secret: u16,
+    s: &Setting<S>,
 ) -> Result<(), Fail> {
-    let types = [level(open), declared(TypeKind::Sig, secret, 0)];
+    let types = [s.open(), s.declared(TypeKind::Sig, 0)];
     let processes = [
         new(1, 3, 1, 0),
         acts(ProcessKind::Out, 2, 3, 1, [0, 4], [0, 3, 0, 0, 0]),
         bare(ProcessKind::Stop, 2, 3, 4),
     ];
     let terms = [slot(0), slot(0), slot(1), made(TermKind::Sign, 1, 2)];
-    accepts(rt, s, listing(&types, &processes, &terms))
+    accepts(rt, &s.scheme, listing(&types, &processes, &terms))
 }
 
 #[test]
 fn signature_of_a_secret_stays_secret(rt: HostRuntime) -> Result<(), Fail> {
-    let three = parties(3)?;
-    secret_signature_on_an_open_channel(&rt, &FourLevels, 1, 2)?;
-    secret_signature_on_an_open_channel(&rt, &three, 63, 27)?;
-    open_signature_on_an_open_channel(&rt, &FourLevels, 1, 2)?;
-    open_signature_on_an_open_channel(&rt, &three, 63, 27)?;
+    let four = four_levels();
+    let three = three_parties()?;
+    secret_signature_on_an_open_channel(&rt, &four)?;
+    secret_signature_on_an_open_channel(&rt, &three)?;
+    open_signature_on_an_open_channel(&rt, &four)?;
+    open_signature_on_an_open_channel(&rt, &three)?;
     open_part_under_a_key_for_secrets(&rt, &FourLevels)
 }
 
@@ -238,6 +222,6 @@ fn order_is_not_by_size(rt: HostRuntime) -> Result<(), Fail> {
     let two = parties(2)?;
     wide_on_a_narrow_channel(&rt, &two)?;
     narrow_on_a_wide_channel(&rt, &two)?;
-    open_part_on_a_channel(&rt, &FourLevels, 1, 2)?;
+    open_part_on_a_channel(&rt, &four_levels())?;
     trusted_for_all(&rt, &FourLevels)
 }

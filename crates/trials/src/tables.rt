@@ -1,7 +1,6 @@
 // Rows of tables, with zeros where a field has no use.
 use rows::{Listing, ProcessKind, ProcessRow, TermKind, TermRow, TypeKind, TypeRow};
 
-#[cfg(test)]
 pub(crate) fn level(a: u16) -> TypeRow {
     TypeRow::plain(a)
 }
@@ -20,9 +19,7 @@ pub(crate) fn slot(slot: u16) -> TermRow {
     TermRow {
         kind: TermKind::Slot,
         slot,
-        count: 0,
-        parts: [0; 4],
-        key: 0,
+        ..TermRow::default()
     }
 }
 
@@ -30,10 +27,8 @@ pub(crate) fn slot(slot: u16) -> TermRow {
 pub(crate) fn derived(kind: TermKind, key: u16) -> TermRow {
     TermRow {
         kind,
-        slot: 0,
-        count: 0,
-        parts: [0; 4],
         key,
+        ..TermRow::default()
     }
 }
 
@@ -41,10 +36,10 @@ pub(crate) fn derived(kind: TermKind, key: u16) -> TermRow {
 pub(crate) fn made(kind: TermKind, part: u16, key: u16) -> TermRow {
     TermRow {
         kind,
-        slot: 0,
         count: 1,
         parts: [part, 0, 0, 0],
         key,
+        ..TermRow::default()
     }
 }
 
@@ -57,15 +52,16 @@ pub(crate) fn acts(
     run: [u16; 2],
     operands: [u16; 5],
 ) -> ProcessRow {
+    let [first, terms] = run;
     ProcessRow {
         kind,
         slots,
         end,
-        ty: 0,
         count,
-        first: run[0],
-        terms: run[1],
+        first,
+        terms,
         operands,
+        ..ProcessRow::default()
     }
 }
 
@@ -80,10 +76,8 @@ pub(crate) fn new(slots: u16, end: u16, ty: u16, first: u16) -> ProcessRow {
         slots,
         end,
         ty,
-        count: 0,
         first,
-        terms: 0,
-        operands: [0; 5],
+        ..ProcessRow::default()
     }
 }
 

@@ -4,20 +4,14 @@ use rows::Listing;
 use std::process::Abort;
 use std::test::Fail;
 
-#[cfg(test)]
 // The listing is accepted.
 pub(crate) fn accepts<S: Scheme>(rt: &impl Abort, s: &S, l: Listing) -> Result<(), Fail> {
-    match check(s, l) {
-        Ok(()) => Ok(()),
-        // no refusal has the number 0: this fails, and shows the number
-        Err(refusal) => {
-            assert_eq!(rt; refusal.number(), 0);
-            Ok(())
-        },
-    }
+    assert_eq!(rt; check(s, l), Ok(()));
+    Ok(())
 }
 
 // The listing is refused with this number, at this row.
+// Kept: the numbers are what is reported, and the tests check them.
 pub(crate) fn refuses<S: Scheme>(
     rt: &impl Abort,
     s: &S,
@@ -25,20 +19,12 @@ pub(crate) fn refuses<S: Scheme>(
     number: u16,
     row: usize,
 ) -> Result<(), Fail> {
-    match check(s, l) {
-        Ok(()) => Err(Fail::new("accepted")),
-        Err(refusal) => {
-            assert_eq!(rt; refusal.number(), number);
-            assert_eq!(rt; refusal.row(), row);
-            Ok(())
-        }
-    }
+    let found = check(s, l).map_err(|refusal| (refusal.number(), refusal.row()));
+    assert_eq!(rt; found, Err((number, row)));
+    Ok(())
 }
 
 // A scheme of so many parties.
 pub(crate) fn parties(count: u16) -> Result<Parties, Fail> {
-    match Parties::new(count) {
-        Ok(scheme) => Ok(scheme),
-        Err(_) => Err(Fail::new("no such number of parties")),
-    }
+    Parties::new(count).map_err(|_| Fail::new("no such number of parties"))
 }

@@ -4,7 +4,7 @@ use Rattle.levels.specs.Meaning.{Meaning, Lawful}
 use Rattle.rows.specs.declared.types.TypeRow.{TypeRow}
 use Rattle.typing.specs.Fits.{Transitive}
 use Rattle.typing.specs.Rules.{Fits}
-use Rattle.typing.proofs.Relations.{fits_out, fits_back}
+use Rattle.typing.proofs.Relations.{fits_decides}
 
 pub chained : (m : Meaning) → Lawful m → (t u v : TypeRow) → Fits m [] t u → Fits m [] u v → Fits m [] t v
 chained m laws t u v (inl e) q = subst (λ (x : TypeRow). Fits m [] x v) (sym e) q
@@ -12,4 +12,4 @@ chained m laws t u v (inr p) (inl e) = subst (λ (x : TypeRow). Fits m [] t x) e
 chained m laws t u v (inr p) (inr q) = inr (q.0, laws.transitive t.level u.level v.level p.1 q.1)
 
 pub fits_transitive : (m : Meaning) → Lawful m → Transitive m
-fits_transitive m laws t u v p q = fits_back m [] t v (chained m laws t u v (fits_out m [] t u p) (fits_out m [] u v q))
+fits_transitive m laws t u v p q = (fits_decides m [] t v).1 (chained m laws t u v ((fits_decides m [] t u).0 p) ((fits_decides m [] u v).0 q))

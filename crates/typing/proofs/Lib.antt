@@ -1,9 +1,6 @@
 pub mod Same
 pub mod Relations
 pub mod Chain
-pub mod Parts
-pub mod Cuts
-pub mod Runs
 pub mod Uses
 pub mod Typings
 pub mod Premises

@@ -1,6 +1,7 @@
--- The tests of fitting, of public types and of a use say what the relations say.
-use Rattle.std.proofs.Common.{◌≡◌, ℕ, Bool, true, ◌&&◌, eqb, List, [], ◌∷◌, refl, inl, inr, ⊎_elim}
-use Rattle.std.proofs.lemmas.Bool.{and_parts, and_from, or_cases, or_left, or_right, eqb-true, eq-eqb}
+-- The tests of fitting, of public types and of a use decide the relations.
+use Rattle.std.proofs.Common.{ℕ, ◌&&◌, eqb, List, [], ◌∷◌, Decides, refl}
+use Rattle.std.proofs.lemmas.Bool.Decides.{Decides-and, Decides-or, Decides-like, Decides-eqb}
+use Rattle.std.proofs.lemmas.List.Sums.{AllPass-from_list_all, list_all-from_AllPass}
 use Rattle.levels.specs.Meaning.{Meaning, public}
 use Rattle.rows.specs.declared.types.TypeKind.{TypeKind}
 use Rattle.rows.specs.declared.types.TypeKind.TheVariants.{Level}
@@ -9,58 +10,27 @@ use Rattle.rows.specs.Types.{same_kind, same_type, type_at}
 use Rattle.typing.specs.Fits.{fits_in, all_fit, all_public}
 use Rattle.typing.specs.Usage.{declared_use, open_use}
 use Rattle.typing.specs.Rules.{Fits, AllFit, Public, AllPublic, DeclaredUse}
-use Rattle.typing.proofs.Same.{kind_eq, eq_kind, type_eq, eq_type}
+use Rattle.typing.proofs.Same.{same_kind_decides, same_type_decides}
 
 module _ (m : Meaning) (ts : List TypeRow) where
-  -- the second way to fit
-  abbrev plainly : TypeRow → TypeRow → Bool
-  plainly t u = same_kind u.kind Level && m.below t.level u.level
+  pub fits_decides : (t u : TypeRow) → Decides (fits_in m t u) (Fits m ts t u)
+  fits_decides t u =
+      Decides-or (same_type t u) (same_kind u.kind Level && m.below t.level u.level) (same_type_decides t u)
+      (Decides-and (same_kind u.kind Level) (m.below t.level u.level) (same_kind_decides u.kind Level) (λ e. e, λ e. e))
 
-  pub fits_out : (t u : TypeRow) → fits_in m t u ≡ true → Fits m ts t u
-  fits_out t u h =
-      ⊎_elim (λ e. inl (type_eq t u e))
-      (λ e. let w = and_parts (same_kind u.kind Level) (m.below t.level u.level) e in inr (kind_eq u.kind Level w.0, w.1))
-      (or_cases (same_type t u) (plainly t u) h)
+  all_fit_decides : (xs : List ℕ) (us : List TypeRow) → Decides (all_fit m ts xs us) (AllFit m ts xs us)
+  all_fit_decides [] us = (λ _. tt, λ _. refl)
+  all_fit_decides (x ∷ xs) [] = (λ _. tt, λ _. refl)
+  all_fit_decides (x ∷ xs) (u ∷ us) = Decides-and (fits_in m u (type_at ts x)) (all_fit m ts xs us) (fits_decides u (type_at ts x)) (all_fit_decides xs us)
 
-  pub fits_back : (t u : TypeRow) → Fits m ts t u → fits_in m t u ≡ true
-  fits_back t u (inl e) = or_left (same_type t u) (plainly t u) (eq_type t u e)
-  fits_back t u (inr w) =
-      or_right (same_type t u) (plainly t u)
-      (and_from (same_kind u.kind Level) (m.below t.level u.level) (eq_kind u.kind Level w.0) w.1)
+  pub public_decides : (us : List TypeRow) → Decides (all_public m us) (AllPublic m ts us)
+  public_decides us = (AllPass-from_list_all (λ t. public m t.level) us, list_all-from_AllPass (λ t. public m t.level) us)
 
-  all_out : (xs : List ℕ) (us : List TypeRow) → all_fit m ts xs us ≡ true → AllFit m ts xs us
-  all_out [] us h = tt
-  all_out (x ∷ xs) [] h = tt
-  all_out (x ∷ xs) (u ∷ us) h =
-      let w = and_parts (fits_in m u (type_at ts x)) (all_fit m ts xs us) h in
-      (fits_out u (type_at ts x) w.0, all_out xs us w.1)
+  pub declared_decides : (k : TypeRow) (asked : TypeKind) (n : ℕ) (parts : List TypeRow) → Decides (declared_use m ts k asked n parts) (DeclaredUse m ts asked n k parts)
+  declared_decides k asked n parts =
+      Decides-like (declared_use m ts k asked n parts) (λ h. (h.0, h.1.0, h.1.1)) (λ h. (h.0, (h.1, h.2)))
+      (Decides-and (same_kind k.kind asked) (eqb k.count n && all_fit m ts k.payload parts) (same_kind_decides k.kind asked)
+      (Decides-and (eqb k.count n) (all_fit m ts k.payload parts) (Decides-eqb k.count n) (all_fit_decides k.payload parts)))
 
-  all_back : (xs : List ℕ) (us : List TypeRow) → AllFit m ts xs us → all_fit m ts xs us ≡ true
-  all_back [] us h = refl
-  all_back (x ∷ xs) [] h = refl
-  all_back (x ∷ xs) (u ∷ us) h = and_from (fits_in m u (type_at ts x)) (all_fit m ts xs us) (fits_back u (type_at ts x) h.0) (all_back xs us h.1)
-
-  pub public_out : (us : List TypeRow) → all_public m us ≡ true → AllPublic m ts us
-  public_out [] h = tt
-  public_out (u ∷ us) h = let w = and_parts (public m u.level) (all_public m us) h in (w.0, public_out us w.1)
-
-  pub public_back : (us : List TypeRow) → AllPublic m ts us → all_public m us ≡ true
-  public_back [] h = refl
-  public_back (u ∷ us) h = and_from (public m u.level) (all_public m us) h.0 (public_back us h.1)
-
-  pub declared_out : (k : TypeRow) (asked : TypeKind) (n : ℕ) (parts : List TypeRow) → declared_use m ts k asked n parts ≡ true → DeclaredUse m ts asked n k parts
-  declared_out k asked n parts h =
-      let w = and_parts (same_kind k.kind asked) (eqb k.count n && all_fit m ts k.payload parts) h in
-      let v = and_parts (eqb k.count n) (all_fit m ts k.payload parts) w.1 in
-      (kind_eq k.kind asked w.0, eqb-true k.count n v.0, all_out k.payload parts v.1)
-
-  pub declared_back : (k : TypeRow) (asked : TypeKind) (n : ℕ) (parts : List TypeRow) → DeclaredUse m ts asked n k parts → declared_use m ts k asked n parts ≡ true
-  declared_back k asked n parts h =
-      and_from (same_kind k.kind asked) (eqb k.count n && all_fit m ts k.payload parts) (eq_kind k.kind asked h.0)
-      (and_from (eqb k.count n) (all_fit m ts k.payload parts) (eq-eqb k.count n h.1) (all_back k.payload parts h.2))
-
-  pub open_out : (k : TypeRow) (parts : List TypeRow) → open_use m k parts ≡ true → Public m ts k × AllPublic m ts parts
-  open_out k parts h = let w = and_parts (public m k.level) (all_public m parts) h in (w.0, public_out parts w.1)
-
-  pub open_back : (k : TypeRow) (parts : List TypeRow) → Public m ts k → AllPublic m ts parts → open_use m k parts ≡ true
-  open_back k parts h hs = and_from (public m k.level) (all_public m parts) h (public_back parts hs)
+  pub open_decides : (k : TypeRow) (parts : List TypeRow) → Decides (open_use m k parts) (Public m ts k × AllPublic m ts parts)
+  open_decides k parts = Decides-and (public m k.level) (all_public m parts) (λ e. e, λ e. e) (public_decides parts)

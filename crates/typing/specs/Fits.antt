@@ -1,5 +1,6 @@
 -- When one type fits another.
-use Rattle.std.specs.Prelude.{◌≡◌, ℕ, Bool, true, ◌&&◌, ◌||◌, List, [], ◌∷◌, slice_index}
+use Rattle.std.specs.Prelude.{◌≡◌, ℕ, Bool, true, ◌&&◌, ◌||◌, List, slice_index}
+use Rattle.std.specs.List.{list_all, zip}
 use Rattle.levels.specs.Meaning.{Meaning, public}
 use Rattle.rows.specs.declared.types.TypeKind.TheVariants.{Level}
 use Rattle.rows.specs.declared.types.TypeRow.{TypeRow}
@@ -14,14 +15,11 @@ Transitive m = (t u v : TypeRow) → fits_in m t u ≡ true → fits_in m u v �
 
 -- each part fits the type in the payload row at its place
 abbrev pub all_fit : Meaning → List TypeRow → List ℕ → List TypeRow → Bool
-all_fit m ts [] us = true
-all_fit m ts (x ∷ xs) [] = true
-all_fit m ts (x ∷ xs) (u ∷ us) = fits_in m u (type_at ts x) && all_fit m ts xs us
+all_fit m ts xs us = list_all (λ w. fits_in m w.1 (type_at ts w.0)) (zip xs us)
 
 -- the level of each part is public
 abbrev pub all_public : Meaning → List TypeRow → Bool
-all_public m [] = true
-all_public m (u ∷ us) = public m u.level && all_public m us
+all_public m us = list_all (λ u. public m u.level) us
 
 -- the number at a place, and 0 past the end
 abbrev pub number_at : List ℕ → ℕ → ℕ

@@ -1,5 +1,5 @@
 -- What a process row comes to.
-use Rattle.std.specs.Prelude.{ℕ, true, false, List, [], ◌∷◌, ◌++◌, map, take, drop, Ok, Err, Result}
+use Rattle.std.specs.Prelude.{ℕ, List, [], ◌∷◌, ◌++◌, map, take, drop, Some, None, Ok, Result}
 use Rattle.levels.specs.Meaning.{Meaning}
 use Rattle.rows.specs.declared.types.TypeKind.TheVariants.{Chan, Sym, Dec}
 use Rattle.rows.specs.declared.types.TypeRow.{TypeRow}
@@ -11,12 +11,10 @@ use Rattle.rows.specs.Types.{type_at}
 use Rattle.rows.specs.Processes.{row, adds, operand, run_of}
 use Rattle.rows.specs.Tables.{Tables}
 use Rattle.typing.specs.declared.misuse.Misuse.{Misuse}
-use Rattle.typing.specs.declared.usage.Usage.{Usage}
-use Rattle.typing.specs.declared.usage.Usage.TheVariants.{Declared, Open, Misused}
 use Rattle.typing.specs.declared.judging.Judgement.{Judgement}
-use Rattle.typing.specs.declared.judging.Judgement.TheVariants.{Done, Binds, Splits, Opens, Refuses}
-use Rattle.typing.specs.Usage.{used, verified}
-use Rattle.typing.specs.Terms.{types_of_run}
+use Rattle.typing.specs.declared.judging.Judgement.TheVariants.{Done, Binds, Splits, Opens}
+use Rattle.typing.specs.Usage.{used, verified, by_use}
+use Rattle.typing.specs.Terms.{types_of_run, and_then}
 
 -- type 0 in each new slot
 abbrev pub zeros : List ℕ
@@ -30,35 +28,25 @@ operand_type us p k = type_at us (operand p k)
 abbrev pub sent_types : List TypeRow → ProcessRow → List TypeRow
 sent_types us p = take p.count (map (type_at us) (drop 1 p.operands))
 
--- a declared use comes to the one, and an open use to the other
-abbrev pub by_use : Usage → Judgement → Judgement → Judgement
-by_use Declared d o = d
-by_use Open d o = o
-by_use (Misused e) d o = Refuses e
-
 -- the rule of a row's kind, where its terms have the types us
-abbrev pub judge : Meaning → List TypeRow → List TypeRow → ProcessRow → ProcessKind → Judgement
-judge m ts us p Stop = Done
+abbrev pub judge : Meaning → List TypeRow → List TypeRow → ProcessRow → ProcessKind → Result Judgement Misuse
+judge m ts us p Stop = Ok Done
 judge m ts us p Out = by_use (used m ts (operand_type us p 0) Chan p.count (sent_types us p)) (Binds zeros) (Binds zeros)
 judge m ts us p In = by_use (used m ts (operand_type us p 0) Chan p.count []) (Binds (operand_type us p 0).payload) (Binds zeros)
-judge m ts us p New = Binds (p.ty ∷ 0 ∷ 0 ∷ 0 ∷ [])
-judge m ts us p Both = Splits
-judge m ts us p Again = Binds zeros
-judge m ts us p If = Splits
+judge m ts us p New = Ok (Binds (p.ty ∷ 0 ∷ 0 ∷ 0 ∷ []))
+judge m ts us p Both = Ok Splits
+judge m ts us p Again = Ok (Binds zeros)
+judge m ts us p If = Ok Splits
 judge m ts us p Sopen = by_use (used m ts (operand_type us p 1) Sym p.count []) (Binds (operand_type us p 1).payload) (Binds zeros)
-judge m ts us p Aopen = by_use (used m ts (operand_type us p 1) Dec p.count []) (Opens (operand_type us p 1).payload true) (Opens zeros false)
+judge m ts us p Aopen = by_use (used m ts (operand_type us p 1) Dec p.count []) (Opens (Some (operand_type us p 1).payload)) (Opens None)
 judge m ts us p Verify = by_use (verified m ts (operand_type us p 1) p.count (operand_type us p 0)) (Binds (operand_type us p 1).payload) (Binds zeros)
 
 -- first the row's terms in order, then the row
-abbrev pub judged : Meaning → List TypeRow → ProcessRow → Result (List TypeRow) Misuse → Judgement
-judged m ts p (Ok us) = judge m ts us p p.kind
-judged m ts p (Err e) = Refuses e
-
-abbrev pub reading : Meaning → List TypeRow → List ℕ → List TermRow → ProcessRow → Judgement
-reading m ts Γ run p = judged m ts p (types_of_run m ts Γ run [])
+abbrev pub reading : Meaning → List TypeRow → List ℕ → List TermRow → ProcessRow → Result Judgement Misuse
+reading m ts Γ run p = and_then (types_of_run m ts Γ run []) (λ us. judge m ts us p p.kind)
 
 -- what the row i comes to, where the slots in scope have the type rows Γ
-abbrev pub reads : Meaning → Tables → List ℕ → ℕ → Judgement
+abbrev pub reads : Meaning → Tables → List ℕ → ℕ → Result Judgement Misuse
 reads m T Γ i = reading m T.types Γ (run_of T.terms (row T.processes i)) (row T.processes i)
 
 -- the slots after a row, where the new ones have these type rows

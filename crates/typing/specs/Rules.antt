@@ -1,5 +1,6 @@
 -- The typing rules as relations, one constructor for each rule. A rule for an open use asks that the declared one does not apply.
 use Rattle.std.specs.Prelude.{◌≡◌, ℕ, ◌+◌, true, ◌⊎◌, List, [], ◌∷◌, ◌++◌, take, ◌≢◌}
+use Rattle.std.specs.List.{All}
 use Rattle.levels.specs.Meaning.{Meaning, public}
 use Rattle.rows.specs.declared.types.TypeKind.{TypeKind}
 use Rattle.rows.specs.declared.types.TypeKind.TheVariants.{Level, Chan, Sym, Dec, Enc, Sig, Ver}
@@ -31,8 +32,7 @@ module _ (m : Meaning) (ts : List TypeRow) where
   Public t = public m t.level ≡ true
 
   abbrev pub AllPublic : List TypeRow → Type 0
-  AllPublic [] = Unit {0}
-  AllPublic (t ∷ us) = Public t × AllPublic us
+  AllPublic us = All Public us
 
   -- k is used as declared: it has the kind asked and the count n, and the parts fit its payload
   abbrev pub DeclaredUse : TypeKind → ℕ → TypeRow → List TypeRow → Type 0

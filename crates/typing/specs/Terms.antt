@@ -10,9 +10,8 @@ use Rattle.rows.specs.declared.term.TermRow.{TermRow}
 use Rattle.rows.specs.Types.{plain, type_at}
 use Rattle.typing.specs.declared.misuse.Misuse.{Misuse}
 use Rattle.typing.specs.declared.usage.Usage.{Usage}
-use Rattle.typing.specs.declared.usage.Usage.TheVariants.{Declared, Open, Misused}
 use Rattle.typing.specs.Fits.{all_public, number_at}
-use Rattle.typing.specs.Usage.{used}
+use Rattle.typing.specs.Usage.{used, by_use}
 
 -- the meet of a key's level with open
 abbrev pub low : Meaning → TypeRow → ℕ
@@ -31,10 +30,8 @@ abbrev pub signature_level : Meaning → List TypeRow → TypeRow → ℕ
 signature_level m ts k = cond (all_public m (payload_types ts k)) (low m k) k.level
 
 -- what a use makes: a declared one the type t, an open one the plain open level
-abbrev pub made : Meaning → Usage → TypeRow → Result TypeRow Misuse
-made m Declared t = Ok t
-made m Open t = Ok (plain m.opened)
-made m (Misused e) t = Err e
+abbrev pub made : Meaning → Result Usage Misuse → TypeRow → Result TypeRow Misuse
+made m u t = by_use u t (plain m.opened)
 
 -- ek and vk look at neither count nor payload
 abbrev pub derived : Meaning → List TypeRow → TypeRow → TypeKind → TypeKind → Result TypeRow Misuse

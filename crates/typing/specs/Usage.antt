@@ -1,5 +1,5 @@
 -- How a key or channel is used: as declared, as open, or in neither way.
-use Rattle.std.specs.Prelude.{ℕ, Bool, cond, not, ◌&&◌, ◌||◌, List, [], ◌∷◌, ◌==◌}
+use Rattle.std.specs.Prelude.{ℕ, Bool, cond, not, ◌&&◌, ◌||◌, List, [], ◌∷◌, ◌==◌, Ok, Err, Result}
 use Rattle.levels.specs.Meaning.{Meaning, public}
 use Rattle.rows.specs.declared.types.TypeKind.{TypeKind}
 use Rattle.rows.specs.declared.types.TypeKind.TheVariants.{Ver}
@@ -8,7 +8,7 @@ use Rattle.rows.specs.Types.{same_kind}
 use Rattle.typing.specs.declared.misuse.Misuse.{Misuse}
 use Rattle.typing.specs.declared.misuse.Misuse.TheVariants.{Kind, Part, Count, Message}
 use Rattle.typing.specs.declared.usage.Usage.{Usage}
-use Rattle.typing.specs.declared.usage.Usage.TheVariants.{Declared, Open, Misused}
+use Rattle.typing.specs.declared.usage.Usage.TheVariants.{Declared, Open}
 use Rattle.typing.specs.Fits.{all_fit, all_public}
 
 abbrev pub misuse_number : Misuse → ℕ
@@ -32,13 +32,22 @@ misuse m k asked n =
     (cond (same_kind k.kind asked || public m k.level) Part Kind)
 
 -- declared use comes first
-abbrev pub first_use : Bool → Bool → Misuse → Usage
-first_use declared opened e = cond declared Declared (cond opened Open (Misused e))
+abbrev pub first_use : Bool → Bool → Misuse → Result Usage Misuse
+first_use declared opened e = cond declared (Ok Declared) (cond opened (Ok Open) (Err e))
 
-abbrev pub used : Meaning → List TypeRow → TypeRow → TypeKind → ℕ → List TypeRow → Usage
+abbrev pub used : Meaning → List TypeRow → TypeRow → TypeKind → ℕ → List TypeRow → Result Usage Misuse
 used m ts k asked n parts = first_use (declared_use m ts k asked n parts) (open_use m k parts) (misuse m k asked n)
 
 -- an open use of a verification key asks for a public message too
-abbrev pub verified : Meaning → List TypeRow → TypeRow → ℕ → TypeRow → Usage
+abbrev pub verified : Meaning → List TypeRow → TypeRow → ℕ → TypeRow → Result Usage Misuse
 verified m ts k n message =
     first_use (declared_use m ts k Ver n []) (open_use m k (message ∷ [])) (cond (public m k.level) Message (misuse m k Ver n))
+
+-- a declared use comes to the one, and an open use to the other
+abbrev pub chosen : {X : Type 0} → Usage → X → X → X
+chosen Declared d o = d
+chosen Open d o = o
+
+abbrev pub by_use : {X : Type 0} → Result Usage Misuse → X → X → Result X Misuse
+by_use (Ok u) d o = Ok (chosen u d o)
+by_use (Err e) d o = Err e

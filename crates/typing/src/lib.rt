@@ -6,11 +6,12 @@
 mod fitting;
 mod judging;
 mod misuse;
+mod rules;
 mod terms;
 mod usage;
 
 pub use fitting::fits;
-pub use judging::{Judgement, judge_row};
+pub use judging::Judgement;
 pub use misuse::Misuse;
-pub use terms::{type_run, type_term};
-pub use usage::{Usage, use_key, use_verification_key};
+pub use rules::Rules;
+pub use usage::Usage;

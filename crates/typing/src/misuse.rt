@@ -1,17 +1,18 @@
 ghost use Rattle.std.specs.Prelude.{◌≡◌};
 ghost use Rattle.typing.specs.Usage.{misuse_number};
 
-/// Why a key or channel can be used neither as declared nor as open.
-#[derive(Clone, Copy)]
+/// Why a key or channel can be used neither as declared nor as open, with the number by which it is
+/// reported.
+#[derive(Clone, Copy, Debug, PartialEq, Eq)]
 pub enum Misuse {
     /// its kind is another, and its level is not public
-    Kind,
+    Kind = 30,
     /// a part does not fit, and the parts or the key are not public
-    Part,
+    Part = 31,
     /// it was declared with another count
-    Count,
+    Count = 32,
     /// a public key verifies a message that is not public
-    Message,
+    Message = 33,
 }
 
 impl Misuse {
@@ -19,11 +20,6 @@ impl Misuse {
     pub fn number(self) -> u16
         ensures { result ≡ misuse_number self }
     {
-        match self {
-            Misuse::Kind => 30,
-            Misuse::Part => 31,
-            Misuse::Count => 32,
-            Misuse::Message => 33,
-        }
+        self as u16
     }
 }

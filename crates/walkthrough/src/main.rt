@@ -1,13 +1,14 @@
 //! Walks through sample protocols under the four levels, row by row in the order of the check.
 #![tactic(auto)]
 
-ghost use Rattle.std.specs.Prelude.{◌≡◌, ◌+◌, ◌-◌, ◌≤◌, take};
+ghost use Rattle.std.specs.Prelude.{◌≡◌, ◌+◌, ◌≤◌, length};
 ghost use Rattle.rows.specs.Processes.{adds};
 ghost use Rattle.typing.specs.Judging.{extended};
 
 mod wording;
 
-use crate::wording::{TypeWords, process_word};
+use crate::wording::{TypeWords, word_of_row};
+use arrayvec::ArrayVec;
 use cases::marked_cases;
 use checking::check;
 use levels::FourLevels;
@@ -18,130 +19,178 @@ use samples::{
 };
 use std::alloc::AllocError;
 use std::io;
-use typing::{Judgement, judge_row, type_term};
+use typing::{Judgement, Misuse, Rules};
 
-fn keep(seen: &mut Vec<TypeRow>, t: TypeRow) -> Result<(), AllocError> {
-    seen.push(t)?;
-    Ok(())
+// A listing under the four levels, and where it is shown.
+#[derive(Clone, Copy)]
+struct Walk<'a> {
+    rt: &'a HostRuntime,
+    listing: Listing<'a>,
+    rules: Rules<'a, FourLevels>,
 }
 
-// The types of a row's terms, up to the first that has none.
-fn show_terms(rt: &HostRuntime, l: Listing, env: &[u16], row: ProcessRow) -> io::Result<()> {
-    let mut seen = Vec::new(rt.alloc());
-    let mut before = "; terms ";
-    for term in row.run(l.terms) {
-        let Ok(t) = type_term(&FourLevels, l.types, env, seen.as_slice(), *term) else {
-            return Ok(());
+impl<'a> Walk<'a> {
+    fn new(rt: &'a HostRuntime, listing: Listing<'a>) -> Walk<'a> {
+        let rules = Rules {
+            scheme: &FourLevels,
+            types: listing.types,
         };
-        let words = TypeWords(t);
-        print!(rt; "{before}{words}")?;
-        before = ", ";
-        keep(&mut seen, t)?;
+        Walk { rt, listing, rules }
     }
-    Ok(())
-}
 
-// The types of the slots that a row adds, which are the first of these type rows.
-fn show_bound(rt: &HostRuntime, l: Listing, row: ProcessRow, new: [u16; 4]) -> io::Result<()> {
-    let mut before = "; binds ";
-    for k in 0..row.added().min(4) {
-        let words = TypeWords(TypeRow::at(l.types, new[k as usize]));
-        let slot = row.slots as usize + k as usize;
-        print!(rt; "{before}slot {slot}: {words}")?;
-        before = ", ";
+    // The types of a row's terms, up to the first that has none.
+    fn show_terms(&self, env: &[u16], row: ProcessRow) -> io::Result<()> {
+        let mut seen = Vec::new(self.rt.alloc());
+        let mut before = "; terms ";
+        for term in row.run(self.listing.terms) {
+            let Ok(t) = self.rules.type_term(env, seen.as_slice(), *term) else {
+                return Ok(());
+            };
+            let words = TypeWords(t);
+            print!(self.rt; "{before}{words}")?;
+            before = ", ";
+            seen.push(t)?;
+        }
+        Ok(())
     }
-    Ok(())
-}
 
-// A row: its number, kind and terms, and what it comes to.
-fn show_row(
-    rt: &HostRuntime,
-    l: Listing,
-    i: u16,
-    row: ProcessRow,
-    env: &[u16],
-    judgement: Judgement,
-) -> io::Result<()> {
-    let kind = process_word(row.kind);
-    print!(rt; "row {i}: {kind}")?;
-    show_terms(rt, l, env, row)?;
-    match judgement {
-        Judgement::Done => {}
-        Judgement::Splits => print!(rt; "; two follow")?,
-        Judgement::Binds(new) => show_bound(rt, l, row, new)?,
-        Judgement::Opens(new, again) => {
-            show_bound(rt, l, row, new)?;
-            if again {
-                print!(rt; "; read twice")?;
+    // The types of the slots that a row adds, which are the first of these type rows.
+    fn show_bound(&self, row: ProcessRow, new: [u16; 4]) -> io::Result<()> {
+        for (k, ty) in new.iter().take(row.added() as usize).enumerate() {
+            let before = if k == 0 { "; binds " } else { ", " };
+            let words = TypeWords(TypeRow::at(self.listing.types, *ty));
+            let slot = row.slots as usize + k;
+            print!(self.rt; "{before}slot {slot}: {words}")?;
+        }
+        Ok(())
+    }
+
+    // What a row comes to.
+    fn show_judgement(
+        &self,
+        row: ProcessRow,
+        judgement: Result<Judgement, Misuse>,
+    ) -> io::Result<()> {
+        match judgement {
+            Ok(Judgement::Done) => Ok(()),
+            Ok(Judgement::Splits) => print!(self.rt; "; two follow"),
+            Ok(Judgement::Binds(new)) => self.show_bound(row, new),
+            Ok(Judgement::Opens(Some(payload))) => {
+                self.show_bound(row, payload)?;
+                print!(self.rt; "; read twice")
+            }
+            Ok(Judgement::Opens(None)) => self.show_bound(row, [0; 4]),
+            Err(misuse) => {
+                let number = misuse.number();
+                print!(self.rt; "; refused {number}")
             }
         }
-        Judgement::Refuses(misuse) => {
-            let number = misuse.number();
-            print!(rt; "; refused {number}")?;
+    }
+
+    // The aopen before a second reading, with what it binds now.
+    fn show_once_more(&self, step: &Step) -> io::Result<()> {
+        let above = step.row.saturating_sub(1);
+        print!(self.rt; "row {above} once more")?;
+        if let Some(aopen) = self.listing.processes.get(above as usize) {
+            self.show_bound(*aopen, [0; 4])?;
+        }
+        println!(self.rt; "")
+    }
+
+    // Reads one row and shows it: its number, kind and terms, and what it comes to, which is the answer.
+    fn read_row(&self, step: &Step, row: ProcessRow) -> io::Result<Result<Judgement, Misuse>> {
+        let mut seen = [TypeRow::default(); 2048];
+        let env = step.slots.as_slice();
+        let judgement = self
+            .rules
+            .judge_row(self.listing.terms, env, row, &mut seen);
+        if step.once_more {
+            self.show_once_more(step)?;
+        }
+        let i = step.row;
+        let kind = word_of_row(row.kind);
+        print!(self.rt; "row {i}: {kind}")?;
+        self.show_terms(env, row)?;
+        self.show_judgement(row, judgement)?;
+        println!(self.rt; "")?;
+        Ok(judgement)
+    }
+
+    // Shows the rows in reading order, up to the first refusal.
+    fn read_rows(&self) -> io::Result<()> {
+        let rows = self.listing.processes;
+        let mut left = Vec::new(self.rt.alloc());
+        // what is free at the start has the open type
+        let mut free = Slots::from([0; 32]);
+        free.truncate(rows.first().map_or(0, |row| row.slots as usize));
+        left.push(Step::at(0, free))?;
+        // Kept: a counted loop, since `while let Some(step) = left.pop()` needs a number that falls,
+        // and a row may put two more steps on the stack.
+        for _ in 0..TURNS {
+            let Some(step) = left.pop() else {
+                break;
+            };
+            let Some(row) = rows.get(step.row as usize) else {
+                break;
+            };
+            let Ok(judgement) = self.read_row(&step, *row)? else {
+                break;
+            };
+            follow(&mut left, rows, step, *row, judgement)?;
+        }
+        Ok(())
+    }
+
+    // The verdict of the check.
+    fn show_verdict(&self) -> io::Result<()> {
+        match check(&FourLevels, self.listing) {
+            Ok(()) => {
+                let count = self.listing.processes.len();
+                println!(self.rt; "accepted {count} rows")
+            }
+            Err(refusal) => {
+                let number = refusal.number();
+                let row = refusal.row();
+                println!(self.rt; "refused {number} row {row}")
+            }
         }
     }
-    println!(rt; "")
 }
 
-// The verdict of the check.
-fn show_verdict(rt: &HostRuntime, l: Listing) -> io::Result<()> {
-    match check(&FourLevels, l) {
-        Ok(()) => {
-            let count = l.processes.len();
-            println!(rt; "accepted {count} rows")
-        }
-        Err(refusal) => {
-            let number = refusal.number();
-            let row = refusal.row();
-            println!(rt; "refused {number} row {row}")
-        }
-    }
-}
+// The type rows of the slots in scope.
+type Slots = ArrayVec<u16, 32>;
 
 // A row that is still to be read, with the type rows of the slots in scope; `once_more` where the
 // second reading of what follows an aopen begins.
-#[derive(Clone, Copy)]
+// Kept: a flag, since a step is read the same way with it; only what is shown before differs.
+#[derive(Drop)]
 struct Step {
     row: u16,
-    slots: [u16; 32],
+    slots: Slots,
     once_more: bool,
+}
+
+impl Step {
+    fn at(row: u16, slots: Slots) -> Step {
+        Step {
+            row,
+            slots,
+            once_more: false,
+        }
+    }
 }
 
 // 512 rows, each read up to 64 times: twice for each of six aopens above it.
 const TURNS: u32 = 40_000;
 
 // The slots after a row, where the new ones have these type rows; as they were where there is no room.
-fn entered(slots: [u16; 32], row: ProcessRow, new: [u16; 4]) -> [u16; 32]
-    ensures { row.slots + adds row ≤ 32 → adds row ≤ 4 → take (row.slots + adds row) result ≡ extended row (take row.slots slots) new }
+fn entered(mut slots: Slots, row: ProcessRow, new: [u16; 4]) -> Slots
+    ensures { length slots.items + adds row ≤ 32 → adds row ≤ 4 → result.items ≡ extended row slots.items new }
 {
-    let mut after = slots;
-    let from = row.slots as usize;
-    let n = row.added() as usize;
-    if n <= 4 && from + n <= 32 {
-        after[from..from + n].copy_from_slice(&new[0..n]);
+    if let Some(bound) = new.get(0..row.added() as usize) {
+        let _ = slots.try_extend_from_slice(bound);
     }
-    after
-}
-
-// The row before one.
-fn before(row: u16) -> u16
-    ensures { result ≡ row - 1 }
-{
-    row.saturating_sub(1)
-}
-
-fn push(
-    left: &mut Vec<Step>,
-    row: u16,
-    slots: [u16; 32],
-    once_more: bool,
-) -> Result<(), AllocError> {
-    left.push(Step {
-        row,
-        slots,
-        once_more,
-    })?;
-    Ok(())
+    slots
 }
 
 // Puts what follows a step on the stack, the last first.
@@ -154,66 +203,37 @@ fn follow(
 ) -> Result<(), AllocError> {
     let next = step.row.saturating_add(1);
     match judgement {
-        Judgement::Done | Judgement::Refuses(_) => Ok(()),
-        Judgement::Binds(new) => push(left, next, entered(step.slots, row, new), false),
+        Judgement::Done => {}
+        Judgement::Binds(new) => left.push(Step::at(next, entered(step.slots, row, new)))?,
         Judgement::Splits => {
             if let Some(child) = rows.get(next as usize) {
-                push(left, child.end, step.slots, false)?;
+                left.push(Step::at(child.end, step.slots.clone()?))?;
             }
-            push(left, next, step.slots, false)
+            left.push(Step::at(next, step.slots))?;
         }
-        Judgement::Opens(new, again) => {
-            if again {
-                push(left, next, entered(step.slots, row, [0; 4]), true)?;
+        Judgement::Opens(payload) => {
+            let open = [0; 4];
+            if payload.is_some() {
+                let once_more = Step::at(next, entered(step.slots.clone()?, row, open));
+                left.push(Step {
+                    once_more: true,
+                    ..once_more
+                })?;
             }
-            push(left, next, entered(step.slots, row, new), false)
+            let new = payload.unwrap_or(open);
+            left.push(Step::at(next, entered(step.slots, row, new)))?;
         }
     }
+    Ok(())
 }
 
-// The aopen before a second reading, with what it binds now.
-fn show_once_more(rt: &HostRuntime, l: Listing, step: Step) -> io::Result<()> {
-    let above = before(step.row);
-    print!(rt; "row {above} once more")?;
-    if let Some(aopen) = l.processes.get(above as usize) {
-        show_bound(rt, l, *aopen, [0; 4])?;
-    }
-    println!(rt; "")
-}
-
-// Reads one row and shows it; the answer says what it comes to.
-fn read_row(rt: &HostRuntime, l: Listing, step: Step, row: ProcessRow) -> io::Result<Judgement> {
-    let mut seen = [TypeRow::plain(0); 2048];
-    let env = &step.slots[0..(row.slots as usize).min(32)];
-    let judgement = judge_row(&FourLevels, l, env, row, &mut seen);
-    if step.once_more {
-        show_once_more(rt, l, step)?;
-    }
-    show_row(rt, l, step.row, row, env, judgement)?;
-    Ok(judgement)
-}
-
-// Shows a sample: its name, its rows in reading order up to the first refusal, and the verdict.
+// Shows a sample: its name, its rows and the verdict.
 fn read_sample(rt: &HostRuntime, sample: Sample) -> io::Result<()> {
     let name = sample.name;
     println!(rt; "\n{name}")?;
-    let l = sample.listing;
-    let mut left = Vec::new(rt.alloc());
-    push(&mut left, 0, [0; 32], false)?;
-    for _ in 0..TURNS {
-        let Some(step) = left.pop() else {
-            break;
-        };
-        let Some(row) = l.processes.get(step.row as usize) else {
-            break;
-        };
-        let judgement = read_row(rt, l, step, *row)?;
-        if let Judgement::Refuses(_) = judgement {
-            break;
-        }
-        follow(&mut left, l.processes, step, *row, judgement)?;
-    }
-    show_verdict(rt, l)
+    let walk = Walk::new(rt, sample.listing);
+    walk.read_rows()?;
+    walk.show_verdict()
 }
 
 fn main(rt: HostRuntime) -> io::Result<()> {

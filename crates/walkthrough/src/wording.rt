@@ -4,7 +4,10 @@ ghost use Rattle.walkthrough.specs.Words.{process_word, type_word};
 use rows::{ProcessKind, TypeKind, TypeRow};
 use std::fmt;
 
-fn type_word(kind: TypeKind) -> &'static str
+// The word of a type's kind.
+// Kept: functions to words, here and below. A `Display` would need a type around another crate's kind
+// for each, and its `fmt` would hold the same match.
+fn word_of_type(kind: TypeKind) -> &'static str
     ensures { result.now ≡ type_word kind }
 {
     match kind {
@@ -19,7 +22,7 @@ fn type_word(kind: TypeKind) -> &'static str
 }
 
 // The word of a row's kind.
-pub(crate) fn process_word(kind: ProcessKind) -> &'static str
+pub(crate) fn word_of_row(kind: ProcessKind) -> &'static str
     ensures { result.now ≡ process_word kind }
 {
     match kind {
@@ -37,12 +40,13 @@ pub(crate) fn process_word(kind: ProcessKind) -> &'static str
 }
 
 // A type in words. Payload types are named by their rows.
+// Kept: a type of its own, since the wording is this program's, and `rows` prints nothing.
 #[derive(Clone, Copy)]
 pub(crate) struct TypeWords(pub(crate) TypeRow);
 
 impl fmt::Display for TypeWords {
     fn fmt<W: fmt::Write>(&self, f: &mut fmt::Formatter<W>) -> fmt::Result {
-        let kind = type_word(self.0.kind);
+        let kind = word_of_type(self.0.kind);
         let level = self.0.level;
         let [a, b, c, d] = self.0.payload;
         match self.0.count {

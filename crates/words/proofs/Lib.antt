@@ -1,2 +1,1 @@
-pub mod Onward
 pub mod Bounds

@@ -1,15 +1,14 @@
 -- The tokens of a text.
-use Rattle.std.specs.Prelude.{ℕ, ◌+◌, ◌-◌, ◌*◌, Bool, true, false, List, [], ◌∷◌, Some, None, Ok, Err, Option, Result, nat_le, nat_lt}
+use Rattle.std.specs.Prelude.{ℕ, ◌+◌, ◌-◌, ◌*◌, ◌≤◌, Bool, true, false, cond, List, [], ◌∷◌, Some, None, Ok, Err, Option, Result, nat_le, nat_lt}
 use Rattle.words.specs.declared.token.Mark.{Mark}
 use Rattle.words.specs.declared.token.Mark.TheVariants.{Open, Close, Semicolon, Comma, Dot, Colon, Bar, Bang, Equals}
 use Rattle.words.specs.declared.bytes.Class.{Class}
 use Rattle.words.specs.declared.bytes.Class.TheVariants.{Separator, Letter, Digit, Single, Other}
-use Rattle.words.specs.declared.word_reader.State.{State}
-use Rattle.words.specs.declared.word_reader.State.TheVariants.{Outside, InWord, InNumber}
 use Rattle.words.specs.declared.token.Token.{Token}
 use Rattle.words.specs.declared.token.Token.TheVariants.{End, Word, Number, Single as One}
 use Rattle.words.specs.declared.token.Span.{Span}
 use Rattle.words.specs.declared.word_reader.WordReader.{WordReader}
+use Rattle.words.specs.declared.word_reader.WordReader.TheVariants.{Outside, InWord, InNumber}
 use Rattle.words.specs.declared.token.WordFault.{WordFault}
 use Rattle.words.specs.declared.token.WordFault.TheVariants.{Byte, Long}
 use Rattle.words.specs.Bytes.{class}
@@ -38,53 +37,59 @@ mark_code Equals = 61
 abbrev pub span : Token → ℕ → ℕ → Span
 span t from to = record { token = t; start = from; «end» = to }
 
-abbrev pub reader : State → ℕ → ℕ → WordReader
-reader s from v = record { state = s; start = from; value = v }
-
 abbrev pub outside : WordReader
-outside = reader Outside 0 0
+outside = Outside
 
 -- what a byte does: nothing yet, a token that is whole, or a fault; and how the reader then stands
 abbrev pub Step : Type 0
 Step = Result (Option Span) WordFault × WordReader
 
-abbrev pub longer : Bool → WordReader → Step
-longer true w = (Ok None, w)
-longer false w = (Err (Long w.start), w)
+-- one more byte of a word that began at s, if there is room
+abbrev pub longer : Bool → WordReader → ℕ → Step
+longer true w s = (Ok None, w)
+longer false w s = (Err (Long s), w)
 
-abbrev pub larger : Bool → WordReader → ℕ → Step
-larger true w v = (Ok None, reader InNumber w.start v)
-larger false w v = (Err (Long w.start), w)
+-- the number that the digit b makes of v, if it fits 16 bits
+abbrev pub with_digit : ℕ → ℕ → Option ℕ
+with_digit v b = cond (nat_le (v * 10 + (b - 48)) 65535) (Some (v * 10 + (b - 48))) None
+
+-- one more digit of a number that began at s, if there is room
+abbrev pub larger : Option ℕ → WordReader → ℕ → Step
+larger (Some v) w s = (Ok None, InNumber s v)
+larger None w s = (Err (Long s), w)
+
+-- the token that ends at a place
+abbrev pub ended : WordReader → ℕ → Span
+ended Outside at = span End at at
+ended (InWord s) at = span Word s at
+ended (InNumber s v) at = span (Number v) s at
 
 -- the state and the class of the byte together decide
-abbrev pub move : State → Class → WordReader → ℕ → ℕ → Step
-move Outside Separator w at b = (Ok None, w)
-move Outside Letter w at b = (Ok None, reader InWord at 0)
-move Outside Digit w at b = (Ok None, reader InNumber at (b - 48))
-move Outside (Single m) w at b = (Ok (Some (span (One m) at (at + 1))), w)
-move Outside Other w at b = (Err (Byte at), w)
-move InWord Separator w at b = (Ok (Some (span Word w.start at)), w)
-move InWord Letter w at b = longer (nat_lt (at - w.start) 32) w
-move InWord Digit w at b = longer (nat_lt (at - w.start) 32) w
-move InWord (Single m) w at b = (Ok (Some (span Word w.start at)), w)
-move InWord Other w at b = (Ok (Some (span Word w.start at)), w)
-move InNumber Separator w at b = (Ok (Some (span (Number w.value) w.start at)), w)
-move InNumber Letter w at b = (Ok (Some (span (Number w.value) w.start at)), w)
-move InNumber Digit w at b = larger (nat_le (w.value * 10 + (b - 48)) 65535) w (w.value * 10 + (b - 48))
-move InNumber (Single m) w at b = (Ok (Some (span (Number w.value) w.start at)), w)
-move InNumber Other w at b = (Ok (Some (span (Number w.value) w.start at)), w)
+abbrev pub move : WordReader → Class → ℕ → ℕ → Step
+move Outside Separator at b = (Ok None, Outside)
+move Outside Letter at b = (Ok None, InWord at)
+move Outside Digit at b = (Ok None, InNumber at (b - 48))
+move Outside (Single m) at b = (Ok (Some (span (One m) at (at + 1))), Outside)
+move Outside Other at b = (Err (Byte at), Outside)
+move (InWord s) Separator at b = (Ok (Some (span Word s at)), InWord s)
+move (InWord s) Letter at b = longer (nat_lt (at - s) 32) (InWord s) s
+move (InWord s) Digit at b = longer (nat_lt (at - s) 32) (InWord s) s
+move (InWord s) (Single m) at b = (Ok (Some (span Word s at)), InWord s)
+move (InWord s) Other at b = (Ok (Some (span Word s at)), InWord s)
+move (InNumber s v) Separator at b = (Ok (Some (span (Number v) s at)), InNumber s v)
+move (InNumber s v) Letter at b = (Ok (Some (span (Number v) s at)), InNumber s v)
+move (InNumber s v) Digit at b = larger (with_digit v b) (InNumber s v) s
+move (InNumber s v) (Single m) at b = (Ok (Some (span (Number v) s at)), InNumber s v)
+move (InNumber s v) Other at b = (Ok (Some (span (Number v) s at)), InNumber s v)
 
 abbrev pub step : WordReader → ℕ → ℕ → Step
-step w at b = move w.state (class b) w at b
+step w at b = move w (class b) at b
 
--- at the end of the text
-abbrev pub ended_in : State → WordReader → ℕ → Span
-ended_in Outside w at = span End at at
-ended_in InWord w at = span Word w.start at
-ended_in InNumber w at = span (Number w.value) w.start at
-
-abbrev pub ended : WordReader → ℕ → Span
-ended w at = ended_in w.state w at
+-- a word or a number that is being read began at a place or before
+abbrev pub begun_by : ℕ → WordReader → Type 0
+begun_by at Outside = Unit {0}
+begun_by at (InWord s) = s ≤ at
+begun_by at (InNumber s v) = s ≤ at
 
 -- a step, and then what is left
 abbrev pub onward : Step → (WordReader → Result Span WordFault) → Result Span WordFault

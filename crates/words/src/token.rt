@@ -2,7 +2,7 @@ ghost use Rattle.std.specs.Prelude.{◌≡◌};
 ghost use Rattle.words.specs.Scan.{word_number, word_place, mark_code};
 
 /// The marks, each a single character.
-#[derive(Clone, Copy)]
+#[derive(Clone, Copy, Debug, PartialEq, Eq)]
 pub enum Mark {
     Open,
     Close,
@@ -15,10 +15,29 @@ pub enum Mark {
     Equals,
 }
 
+impl From<Mark> for char {
+    ghost from_gives = { λ m c. c ≡ mark_code m };
+
+    fn from(mark: Mark) -> char {
+        match mark {
+            Mark::Open => '(',
+            Mark::Close => ')',
+            Mark::Semicolon => ';',
+            Mark::Comma => ',',
+            Mark::Dot => '.',
+            Mark::Colon => ':',
+            Mark::Bar => '|',
+            Mark::Bang => '!',
+            Mark::Equals => '=',
+        }
+    }
+}
+
 /// What stands at a place of the text.
-#[derive(Clone, Copy)]
+#[derive(Clone, Copy, Debug, Default, PartialEq, Eq)]
 pub enum Token {
     /// the end of the text
+    #[default]
     End,
     /// a word: a letter, then letters or digits
     Word,
@@ -28,8 +47,9 @@ pub enum Token {
     Single(Mark),
 }
 
-/// A token and the bytes that it takes, from `start` up to `end`.
-#[derive(Clone, Copy)]
+/// A token and the bytes that it takes, from `start` up to `end`. By default no token: the end of
+/// an empty text.
+#[derive(Clone, Copy, Debug, Default, PartialEq, Eq)]
 pub struct Span {
     pub token: Token,
     pub start: usize,
@@ -37,7 +57,7 @@ pub struct Span {
 }
 
 /// Why there is no token, with the place where the fault begins.
-#[derive(Clone, Copy)]
+#[derive(Clone, Copy, Debug, PartialEq, Eq)]
 pub enum WordFault {
     /// a byte that begins no word, number or mark
     Byte(usize),
@@ -47,6 +67,7 @@ pub enum WordFault {
 
 impl WordFault {
     /// The number by which the fault is reported.
+    // Kept: a match, since `as` takes no enum whose cases carry values.
     pub fn number(self) -> u16
         ensures { result ≡ word_number self }
     {
@@ -61,27 +82,7 @@ impl WordFault {
         ensures { result ≡ word_place self }
     {
         match self {
-            WordFault::Byte(place) => place,
-            WordFault::Long(place) => place,
-        }
-    }
-}
-
-impl Mark {
-    /// The character of the mark.
-    pub fn code(self) -> char
-        ensures { result ≡ mark_code self }
-    {
-        match self {
-            Mark::Open => '(',
-            Mark::Close => ')',
-            Mark::Semicolon => ';',
-            Mark::Comma => ',',
-            Mark::Dot => '.',
-            Mark::Colon => ':',
-            Mark::Bar => '|',
-            Mark::Bang => '!',
-            Mark::Equals => '=',
+            WordFault::Byte(place) | WordFault::Long(place) => place,
         }
     }
 }

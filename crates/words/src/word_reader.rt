@@ -1,112 +1,83 @@
-ghost use Rattle.std.specs.Prelude.{◌≡◌, ℕ, ◌+◌, ◌-◌, ◌*◌, ◌^◌, ◌<◌, ◌≤◌, length, drop, IfSome, IfOk};
-ghost use Rattle.words.specs.Scan.{step, ended, outside, scan};
+ghost use Rattle.std.specs.Prelude.{◌≡◌, ◌+◌, ◌^◌, ◌<◌, ◌≤◌, length, drop, IfSome, IfOk};
+ghost use Rattle.words.specs.Scan.{step, ended, outside, scan, begun_by, with_digit};
 
 use crate::bytes::{Class, class_of};
 use crate::token::{Span, Token, WordFault};
 
-// Where the word reader stands.
+// Where the word reader stands: outside, or in a word or a number, with the place where it began
+// and the number's value so far.
 #[derive(Clone, Copy)]
-enum State {
+enum WordReader {
     Outside,
-    InWord,
-    InNumber,
+    InWord { start: usize },
+    InNumber { start: usize, value: u16 },
 }
 
-// The word reader: its state, where its word or number began, and the number's value so far.
-#[derive(Clone, Copy)]
-struct WordReader {
-    state: State,
-    start: usize,
-    value: u32,
-}
-
-// The bytes that a token takes.
+// A token and the bytes that it takes.
 fn span(token: Token, start: usize, end: usize) -> Span
     ensures { result ≡ record { token = token; start = start; «end» = «end» } }
 {
     Span { token, start, end }
 }
 
-impl WordReader {
-    // In a word or a number that begins at `start`.
-    fn begun(state: State, start: usize, value: u32) -> WordReader
-        ensures { result ≡ record { state = state; start = start; value = value } }
-    {
-        WordReader {
-            state,
-            start,
-            value,
-        }
-    }
+// The number that the digit `b` makes of `value`, if it fits 16 bits.
+fn with_digit(value: u16, b: u8) -> Option<u16>
+    requires { (48 ≤ b) × (b ≤ 57) }
+    ensures { result ≡ with_digit value b }
+{
+    value.checked_mul(10)?.checked_add(u16::from(b - b'0'))
+}
 
+impl WordReader {
     // The byte `b` at the place `at`: the state and the byte's class together decide.
     fn step(&mut self, at: usize, b: u8) -> Result<Option<Span>, WordFault>
-        requires small { self.old.value ≤ 65535 }
-        requires begun { self.old.start ≤ at }
+        requires begun { begun_by at self.old }
         requires room { at + 1 < 2 ^ 64 }
         ensures answer { result ≡ (step self.old at b).0 }
         ensures next { self.new ≡ (step self.old at b).1 }
         ensures bounds { IfOk result (λ o. IfSome o (λ l. (l.start ≤ l.«end») × (l.«end» ≤ at + 1))) }
-        ensures small { self.new.value ≤ 65535 }
-        ensures begun { self.new.start ≤ at }
+        ensures begun { begun_by at self.new }
     {
-        match (self.state, class_of(b)) {
-            (State::Outside, Class::Separator) => Ok(None),
-            (State::Outside, Class::Letter) => {
-                *self = WordReader::begun(State::InWord, at, 0);
+        match (*self, class_of(b)) {
+            (WordReader::Outside, Class::Separator) => Ok(None),
+            (WordReader::Outside, Class::Letter) => {
+                *self = WordReader::InWord { start: at };
                 Ok(None)
             }
-            (State::Outside, Class::Digit) => {
-                *self = WordReader::begun(State::InNumber, at, (b - 48) as u32);
+            (WordReader::Outside, Class::Digit) => {
+                let value = u16::from(b - b'0');
+                *self = WordReader::InNumber { start: at, value };
                 Ok(None)
             }
-            (State::Outside, Class::Single(m)) => Ok(Some(span(Token::Single(m), at, at + 1))),
-            (State::Outside, Class::Other) => Err(WordFault::Byte(at)),
-            (State::InWord, Class::Letter | Class::Digit) => {
-                if at - self.start < 32 {
-                    Ok(None)
-                } else {
-                    Err(WordFault::Long(self.start))
-                }
+            (WordReader::Outside, Class::Single(m)) => {
+                Ok(Some(span(Token::Single(m), at, at + 1)))
             }
-            (State::InWord, _) => Ok(Some(span(Token::Word, self.start, at))),
-            (State::InNumber, Class::Digit) => {
-                let value = self.value * 10 + (b - 48) as u32;
-                if value > 65535 {
-                    return Err(WordFault::Long(self.start));
-                }
-                self.value = value;
+            (WordReader::Outside, Class::Other) => Err(WordFault::Byte(at)),
+            (WordReader::InWord { start }, Class::Letter | Class::Digit) if at - start >= 32 => {
+                Err(WordFault::Long(start))
+            }
+            (WordReader::InWord { .. }, Class::Letter | Class::Digit) => Ok(None),
+            (WordReader::InNumber { start, value }, Class::Digit) => {
+                let value = with_digit(value, b).ok_or(WordFault::Long(start))?;
+                *self = WordReader::InNumber { start, value };
                 Ok(None)
             }
-            (State::InNumber, _) => {
-                Ok(Some(span(Token::Number(self.value as u16), self.start, at)))
+            (WordReader::InWord { .. } | WordReader::InNumber { .. }, _) => {
+                Ok(Some(self.end(at)))
             }
         }
     }
 
-    // At the end of the text.
-    fn end(&self, at: usize) -> Span
-        requires small { self.now.value ≤ 65535 }
-        requires begun { self.now.start ≤ at }
-        ensures which { result ≡ ended self.now at }
+    // The token that ends at the place `at`.
+    fn end(self, at: usize) -> Span
+        requires begun { begun_by at self }
+        ensures which { result ≡ ended self at }
         ensures bounds { (result.start ≤ result.«end») × (result.«end» ≤ at) }
     {
-        match self.state {
-            State::Outside => Span {
-                token: Token::End,
-                start: at,
-                end: at,
-            },
-            State::InWord => Span {
-                token: Token::Word,
-                start: self.start,
-                end: at,
-            },
-            State::InNumber => Span {
-                token: Token::Number(self.value as u16),
-                start: self.start,
-                end: at,
-            },
+        match self {
+            WordReader::Outside => span(Token::End, at, at),
+            WordReader::InWord { start } => span(Token::Word, start, at),
+            WordReader::InNumber { start, value } => span(Token::Number(value), start, at),
         }
     }
 }
@@ -116,17 +87,13 @@ pub fn next_token(text: &[u8], from: usize) -> Result<Span, WordFault>
     ensures which { result ≡ scan outside from (drop from text.now) }
     ensures bounds { from ≤ length text.now → IfOk result (λ l. (l.start ≤ l.«end») × (l.«end» ≤ length text.now)) }
 {
-    let mut reader = WordReader {
-        state: State::Outside,
-        start: 0,
-        value: 0,
-    };
-    let mut at = from;
-    while at < text.len() {
+    let mut reader = WordReader::Outside;
+    // Kept: a range, whose index the loop's invariant tells of, so that no goal needs an answer. Over
+    // `enumerate().skip(from)` there is no such index, and the check leaves five goals open.
+    for at in from..text.len() {
         if let Some(found) = reader.step(at, text[at])? {
             return Ok(found);
         }
-        at += 1;
     }
-    Ok(reader.end(at))
+    Ok(reader.end(text.len().max(from)))
 }

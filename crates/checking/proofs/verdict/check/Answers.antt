@@ -1,4 +1,4 @@
-use Rattle.std.proofs.Common.{◌≡◌, Err, ap, ◌∙◌}
+use Rattle.std.proofs.Common.{◌≡◌, ap, ◌∙◌}
 use Rattle.std.proofs.lemmas.Result.{err_from_is_err_and}
 use Rattle.levels.specs.Means.{means}
 use Rattle.levels.proofs.Laws.{lawful}
@@ -8,13 +8,12 @@ use Rattle.checking.proofs.Agrees.{decides}
 use Rattle.checking.proofs.SameAnswers.{by_answers}
 use Rattle.checking.proofs.verdict.check.Goals as goal
 
-pub returns-in_err-in_shape : goal.returns-in_err-in_shape
-returns-in_err-in_shape g c =
+pub returns-in_err-in_shape-clause-by_answers : goal.returns-in_err-in_shape-clause-by_answers
+returns-in_err-in_shape-clause-by_answers g c =
     let m = means g.S.Scheme c.args.s.now in
     let T = tables c.args.l in
     let p = err_from_is_err_and c.from_residual.result c.from_residual.ensures.1 in
-    let e : c.from_residual.result ≡ verdict m T = p.1 ∙ ap Err p.2 ∙ ap (λ x. then_rules x (rules m T)) c.in_err-in_shape.ensures.says in
-    record { says = e; decides = decides m T c.from_residual.result e; by_answers = by_answers m (lawful g.met.S.Scheme c.args.s.now) T c.from_residual.result e }
+    by_answers m (lawful g.met.S.Scheme c.args.s.now) T c.from_residual.result (rw (p.1, p.2) (ap (λ x. then_rules x (rules m T)) c.in_err-in_shape.ensures.says))
 
 pub returns : goal.returns
 returns g c =

@@ -10,7 +10,7 @@ use Rattle.checking.proofs.verdict.walk.Given as goal
 abbrev pub invariant-turn : goal.invariant-turn
 invariant-turn g l =
     let m = means g.S.Scheme l.s in
-    Turn m (tables l.l) l.env l.i l.top l.stack l.due (length l.seen) (rules m (tables l.l))
+    Turn m (tables l.l) l.env l.i l.top l.stack l.due (rules m (tables l.l))
 
 abbrev pub decreases-turn : goal.decreases-turn
 decreases-turn g l = weight (length (tables l.l).processes) l.i (held l.top l.stack l.due)

@@ -1,43 +1,29 @@
-use Rattle.std.proofs.Common.{◌≡◌, length, replicate, refl, ap, ◌∙◌, arith}
-use Rattle.reader.specs.Whole.{zero_type, zero_process, zero_term, sizes_of}
-use Rattle.reader.proofs.Told.{too_long, fits}
-use Rattle.reader.proofs.Sounds.{listing_holds}
+use Rattle.std.proofs.Common.{◌≡◌, length, replicate, sym, ap, ◌∙◌, subst, arith}
+use Rattle.reader.specs.Whole.{zero_type, zero_process, zero_term, sizes_of, Told}
+use Rattle.reader.proofs.Told.{too_long, fits, accepted, refused}
 use Rattle.reader.proofs.whole.read_with_scope.Goals as goal
 
-pub returns-then-text-gt-LONGEST : goal.returns-then-text-gt-LONGEST
-returns-then-text-gt-LONGEST c =
+pub returns-then-text-gt-LONGEST-clause-answer : goal.returns-then-text-gt-LONGEST-clause-answer
+returns-then-text-gt-LONGEST-clause-answer c =
     let n = sizes_of c.args.types.now c.args.processes.now c.args.terms.now c.args.places.now in
-    record {
-      answer = (too_long c.args.text.now c.args.level n c.if-text-gt-LONGEST.true, c.clear_types.ensures, c.clear_processes.ensures, c.clear_terms.ensures, c.clear_places.ensures);
-      sound = tt;
-      never_20_or_23 = tt;
-      kept = refl;
-    }
+    (too_long c.args.text.now c.args.level n c.if-text-gt-LONGEST.true, c.clear.ensures.types, c.clear.ensures.processes, c.clear.ensures.terms, c.clear.ensures.places)
 
-pub returns-in-Ok : goal.returns-in-Ok
-returns-in-Ok c =
+pub returns-then-is_err-clause-answer : goal.returns-then-is_err-clause-answer
+returns-then-is_err-clause-answer c =
     let n = sizes_of c.args.types.now c.args.processes.now c.args.terms.now c.args.places.now in
-    let h = fits c.args.text.now c.args.level n c.if-text-gt-LONGEST.false c.clear_types.new.types c.clear_processes.new.processes c.clear_terms.new.terms c.clear_places.new.places c.clear_types.ensures c.clear_processes.ensures c.clear_terms.ensures c.clear_places.ensures ∙ c.in-Ok.ensures.told in
-    let q = listing_holds c.args.text.now c.args.level n _ h in
-    record { answer = h; sound = q.0; never_20_or_23 = q.1; kept = c.in-Ok.ensures.kept }
+    let m = fits c.args.text.now c.args.level n c.if-text-gt-LONGEST.false c.clear.new.types c.clear.new.processes c.clear.new.terms c.clear.new.places c.clear.ensures.types c.clear.ensures.processes c.clear.ensures.terms c.clear.ensures.places in
+    let told = subst (λ x. Told x c.read_into-answer.result c.read_into-answer.new.types c.read_into-answer.new.processes c.read_into-answer.new.terms c.read_into-answer.new.places) (sym m) c.read_into-answer.ensures.told in
+    let a : length c.read_into-answer.new.types ≡ length c.args.types.now = omega arith in
+    let b : length c.read_into-answer.new.processes ≡ length c.args.processes.now = omega arith in
+    let d : length c.read_into-answer.new.terms ≡ length c.args.terms.now = omega arith in
+    let e : length c.read_into-answer.new.places ≡ length c.args.places.now = omega arith in
+    refused c.args.text.now c.args.level n c.read_into-answer.result _ _ _ _ (sym c.is_err.ensures.value ∙ c.if-is_err.true) told
+    _ _ _ _ (c.clear-then-is_err.ensures.types ∙ ap (λ k. replicate k zero_type) a) (c.clear-then-is_err.ensures.processes ∙ ap (λ k. replicate k zero_process) b) (c.clear-then-is_err.ensures.terms ∙ ap (λ k. replicate k zero_term) d) (c.clear-then-is_err.ensures.places ∙ ap (λ k. replicate k 0) e)
 
-pub returns-in-Err : goal.returns-in-Err
-returns-in-Err c =
+pub returns-else-is_err : goal.returns-else-is_err
+returns-else-is_err c =
     let n = sizes_of c.args.types.now c.args.processes.now c.args.terms.now c.args.places.now in
-    let a : length c.read_into.new.types ≡ length c.args.types.now = omega arith in
-    let b : length c.read_into.new.processes ≡ length c.args.processes.now = omega arith in
-    let d : length c.read_into.new.terms ≡ length c.args.terms.now = omega arith in
-    let e : length c.read_into.new.places ≡ length c.args.places.now = omega arith in
-    record {
-      answer = (
-        fits c.args.text.now c.args.level n c.if-text-gt-LONGEST.false c.clear_types.new.types c.clear_processes.new.processes c.clear_terms.new.terms c.clear_places.new.places c.clear_types.ensures c.clear_processes.ensures c.clear_terms.ensures c.clear_places.ensures
-            ∙ c.in-Err.ensures.told,
-        c.clear_types-in-Err.ensures ∙ ap (λ k. replicate k zero_type) a,
-        c.clear_processes-in-Err.ensures ∙ ap (λ k. replicate k zero_process) b,
-        c.clear_terms-in-Err.ensures ∙ ap (λ k. replicate k zero_term) d,
-        c.clear_places-in-Err.ensures ∙ ap (λ k. replicate k 0) e,
-      );
-      sound = tt;
-      never_20_or_23 = tt;
-      kept = c.in-Err.ensures.kept;
-    }
+    let m = fits c.args.text.now c.args.level n c.if-text-gt-LONGEST.false c.clear.new.types c.clear.new.processes c.clear.new.terms c.clear.new.places c.clear.ensures.types c.clear.ensures.processes c.clear.ensures.terms c.clear.ensures.places in
+    let told = subst (λ x. Told x c.read_into-answer.result c.read_into-answer.new.types c.read_into-answer.new.processes c.read_into-answer.new.terms c.read_into-answer.new.places) (sym m) c.read_into-answer.ensures.told in
+    let q = accepted c.args.text.now c.args.level n c.read_into-answer.result _ _ _ _ (sym c.is_err.ensures.value ∙ c.if-is_err.false) told in
+    record { answer = q.0; sound = q.1; never_20_or_23 = q.2; kept = c.read_into-answer.ensures.kept }

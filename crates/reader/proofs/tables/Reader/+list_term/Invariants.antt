@@ -14,7 +14,7 @@ decreases-term l = 2 * l.allow
 abbrev pub invariant-list-loop-parts : goal.invariant-list-loop-parts
 invariant-list-loop-parts l =
     (l.parts.count ≤ 4)
-    × (list l.allow l.text (scoped l.scope).names l.stop (state l.initial.self) ≡ terms_by l.text (scoped l.scope).names l.stop (term l.allow l.text (scoped l.scope).names) (4 - l.parts.count) l.parts (state l.self))
+    × (list l.allow (scoped l.scope).names l.stop (state l.initial.self) ≡ terms_by (scoped l.scope).names l.stop (term l.allow (scoped l.scope).names) (4 - l.parts.count) l.parts (state l.self))
     × Same l.self l.initial.self
 
 abbrev pub decreases-list-loop-parts : goal.decreases-list-loop-parts

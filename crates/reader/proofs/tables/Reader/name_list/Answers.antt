@@ -1,47 +1,58 @@
-use Rattle.std.proofs.Common.{◌≡◌, ◌+◌, ◌-◌, ◌<◌, ◌≤◌, true, false, Ok, sym, refl, ap, ◌∙◌, subst, arith, rules}
+use Rattle.std.proofs.Common.{◌≡◌, ◌+◌, ◌-◌, ◌<◌, ◌≤◌, ◌≢◌, length, true, false, Ok, sym, ap, ◌∙◌, subst, arith, rules}
+use Rattle.std.proofs.lemmas.Bool.{eqb-true, eqb-false}
 use Rattle.std.proofs.lemmas.Result.{IfOk-weaker}
 use Rattle.words.specs.declared.token.Mark.TheVariants.{Close}
 use Rattle.reader.specs.Cursor.{state, Gives}
 use Rattle.reader.specs.Tokens.{comma}
 use Rattle.reader.specs.Lists.{series}
-use Rattle.reader.specs.Names.{also, new_name, fifth_name, name_list}
+use Rattle.reader.specs.Names.{also, new_name, fifth_name}
 use Rattle.reader.proofs.Series.{one_too_many, item_fails, comma_fails, list_ends, goes_on}
 use Rattle.reader.proofs.tables.Reader.name_list.Goals as goal
 
-pub loop-names-init : goal.loop-names-init
-unfolding name_list
-loop-names-init c = (omega arith, omega arith, refl, search rules)
-
 pub returns-in_err-item : goal.returns-in_err-item
 returns-in_err-item c =
-    let some : 0 < 4 - c.loop-names.names.count = omega arith in
-    let f = item_fails also (λ ns. new_name c.args.text.now (c.args.slots + ns.count)) (λ ns. fifth_name c.args.text.now) c.args.text.now Close (4 - c.loop-names.names.count) c.loop-names.names some _ (state c.loop-names.self) c.loop-names.invariant.2 _ c.in_err-item.ensures.gives in
-    record { gives = search rules; same = search rules; few = search rules }
+    let open_yet : length c.loop-names.names.items ≢ 4 = eqb-false _ _ (sym c.is_full.ensures.value ∙ c.loop-names-test.true) in
+    let some : 0 < 4 - length c.loop-names.names.items = omega (arith, c.is_full.ensures.fits) in
+    let at : new_name (c.args.slots + length c.loop-names.names.items) (state c.loop-names.self) ≡ new_name (c.args.slots + c.len.result) (state c.loop-names.self) = ap (λ k. new_name (c.args.slots + k) (state c.loop-names.self)) (sym c.len.ensures.value) in
+    let f = item_fails also (λ ns. new_name (c.args.slots + length ns.items)) (λ ns. fifth_name) Close (4 - length c.loop-names.names.items) c.loop-names.names some _ (state c.loop-names.self) c.loop-names.invariant.1 _ (at ∙ c.in_err-item.ensures.gives) in
+    record { gives = search rules; same = search rules; room = search rules }
 
 pub returns-in_err-more : goal.returns-in_err-more
 returns-in_err-more c =
-    let some : 0 < 4 - c.loop-names.names.count = omega arith in
-    let f = comma_fails also (λ ns. new_name c.args.text.now (c.args.slots + ns.count)) (λ ns. fifth_name c.args.text.now) c.args.text.now Close (4 - c.loop-names.names.count) c.loop-names.names some _ (state c.loop-names.self) c.loop-names.invariant.2 c.in_ok-item.item (state c.new_name.new.self) c.in_ok-item.ensures.gives _ c.in_err-more.ensures.gives in
-    record { gives = search rules; same = search rules; few = search rules }
+    let open_yet : length c.loop-names.names.items ≢ 4 = eqb-false _ _ (sym c.is_full.ensures.value ∙ c.loop-names-test.true) in
+    let some : 0 < 4 - length c.loop-names.names.items = omega (arith, c.is_full.ensures.fits) in
+    let at : new_name (c.args.slots + length c.loop-names.names.items) (state c.loop-names.self) ≡ new_name (c.args.slots + c.len.result) (state c.loop-names.self) = ap (λ k. new_name (c.args.slots + k) (state c.loop-names.self)) (sym c.len.ensures.value) in
+    let f = comma_fails also (λ ns. new_name (c.args.slots + length ns.items)) (λ ns. fifth_name) Close (4 - length c.loop-names.names.items) c.loop-names.names some _ (state c.loop-names.self) c.loop-names.invariant.1 c.in_ok-item.item (state c.new_name.new.self) (at ∙ c.in_ok-item.ensures.gives) _ c.in_err-more.ensures.gives in
+    record { gives = search rules; same = search rules; room = search rules }
 
 pub returns-then-not-more : goal.returns-then-not-more
 returns-then-not-more c =
-    let some : 0 < 4 - c.loop-names.names.count = omega arith in
-    let room : c.args.slots + c.loop-names.names.count < 32 = c.in_ok-item.ensures.room in
-    let k : comma c.args.text.now Close (state c.new_name.new.self) ≡ Ok (false, state c.comma.new.self) = c.in_ok-more.ensures.gives ∙ ap (λ m. Ok (m, state c.comma.new.self)) c.if-not-more.true in
-    record { gives = list_ends also (λ ns. new_name c.args.text.now (c.args.slots + ns.count)) (λ ns. fifth_name c.args.text.now) c.args.text.now Close (4 - c.loop-names.names.count) c.loop-names.names some _ (state c.loop-names.self) c.loop-names.invariant.2 c.in_ok-item.item (state c.new_name.new.self) c.in_ok-item.ensures.gives (state c.comma.new.self) k; same = search rules; few = (omega arith, omega arith) }
+    let open_yet : length c.loop-names.names.items ≢ 4 = eqb-false _ _ (sym c.is_full.ensures.value ∙ c.loop-names-test.true) in
+    let some : 0 < 4 - length c.loop-names.names.items = omega (arith, c.is_full.ensures.fits) in
+    let at : new_name (c.args.slots + length c.loop-names.names.items) (state c.loop-names.self) ≡ new_name (c.args.slots + c.len.result) (state c.loop-names.self) = ap (λ k. new_name (c.args.slots + k) (state c.loop-names.self)) (sym c.len.ensures.value) in
+    let space : c.args.slots + length c.loop-names.names.items < 32 = omega (arith, c.in_ok-item.ensures.room, c.len.ensures.value) in
+    let k : comma Close (state c.new_name.new.self) ≡ Ok (false, state c.comma.new.self) = c.in_ok-more.ensures.gives ∙ ap (λ m. Ok (m, state c.comma.new.self)) c.if-not-more.true in
+    let f = list_ends also (λ ns. new_name (c.args.slots + length ns.items)) (λ ns. fifth_name) Close (4 - length c.loop-names.names.items) c.loop-names.names some _ (state c.loop-names.self) c.loop-names.invariant.1 c.in_ok-item.item (state c.new_name.new.self) (at ∙ c.in_ok-item.ensures.gives) (state c.comma.new.self) k in
+    record { gives = f ∙ (λ i. Ok (record { items = sym c.push.ensures.items i }, state c.comma.new.self)); same = search rules; room = omega (arith, c.push.ensures.len) }
 
 pub loop-names-preserved : goal.loop-names-preserved
 loop-names-preserved c =
-    let some : 0 < 4 - c.loop-names.names.count = omega arith in
-    let room : c.args.slots + c.loop-names.names.count < 32 = c.in_ok-item.ensures.room in
-    let k : comma c.args.text.now Close (state c.new_name.new.self) ≡ Ok (true, state c.comma.new.self) = c.in_ok-more.ensures.gives ∙ ap (λ m. Ok (m, state c.comma.new.self)) c.if-not-more.false in
-    let f = goes_on also (λ ns. new_name c.args.text.now (c.args.slots + ns.count)) (λ ns. fifth_name c.args.text.now) c.args.text.now Close (4 - c.loop-names.names.count) c.loop-names.names some _ (state c.loop-names.self) c.loop-names.invariant.2 c.in_ok-item.item (state c.new_name.new.self) c.in_ok-item.ensures.gives (state c.comma.new.self) k in
-    let n : 4 - c.loop-names.names.count - 1 ≡ 4 - (c.loop-names.names.count + 1) = omega arith in
-    (omega arith, omega arith, f ∙ ap (λ m. series also (λ ns. new_name c.args.text.now (c.args.slots + ns.count)) (λ ns. fifth_name c.args.text.now) c.args.text.now Close m (also c.loop-names.names c.in_ok-item.item) (state c.comma.new.self)) n, search rules)
+    let open_yet : length c.loop-names.names.items ≢ 4 = eqb-false _ _ (sym c.is_full.ensures.value ∙ c.loop-names-test.true) in
+    let some : 0 < 4 - length c.loop-names.names.items = omega (arith, c.is_full.ensures.fits) in
+    let at : new_name (c.args.slots + length c.loop-names.names.items) (state c.loop-names.self) ≡ new_name (c.args.slots + c.len.result) (state c.loop-names.self) = ap (λ k. new_name (c.args.slots + k) (state c.loop-names.self)) (sym c.len.ensures.value) in
+    let space : c.args.slots + length c.loop-names.names.items < 32 = omega (arith, c.in_ok-item.ensures.room, c.len.ensures.value) in
+    let k : comma Close (state c.new_name.new.self) ≡ Ok (true, state c.comma.new.self) = c.in_ok-more.ensures.gives ∙ ap (λ m. Ok (m, state c.comma.new.self)) c.if-not-more.false in
+    let f = goes_on also (λ ns. new_name (c.args.slots + length ns.items)) (λ ns. fifth_name) Close (4 - length c.loop-names.names.items) c.loop-names.names some _ (state c.loop-names.self) c.loop-names.invariant.1 c.in_ok-item.item (state c.new_name.new.self) (at ∙ c.in_ok-item.ensures.gives) (state c.comma.new.self) k in
+    let n : 4 - length c.loop-names.names.items - 1 ≡ 4 - length c.push.new.self.items = omega (arith, c.push.ensures.len) in
+    (omega (arith, c.push.ensures.len), f ∙ (λ i. series also (λ ns. new_name (c.args.slots + length ns.items)) (λ ns. fifth_name) Close (n i) (record { items = sym c.push.ensures.items i }) (state c.comma.new.self)), search rules)
 
 pub returns : goal.returns
 returns c =
-    let z : 4 - c.loop-names.names.count ≡ 0 = omega arith in
-    let f = c.loop-names.invariant.2 ∙ one_too_many also (λ ns. new_name c.args.text.now (c.args.slots + ns.count)) (λ ns. fifth_name c.args.text.now) c.args.text.now Close (4 - c.loop-names.names.count) c.loop-names.names (state c.loop-names.self) z in
-    record { gives = subst (λ m. Gives m c.fifth_name.result (state c.fifth_name.new.self)) (sym f) c.fifth_name.ensures.gives; same = search rules; few = IfOk-weaker c.fifth_name.result (λ n. ⊥) (λ n. (n.count ≤ 4) × (c.args.slots + n.count ≤ 32)) (λ n h. absurd h) c.fifth_name.ensures.never }
+    let full : length c.loop-names.names.items ≡ 4 = eqb-true _ _ (sym c.is_full.ensures.value ∙ c.loop-names-test.false) in
+    let z : 4 - length c.loop-names.names.items ≡ 0 = omega (arith, full) in
+    let f = c.loop-names.invariant.1 ∙ one_too_many also (λ ns. new_name (c.args.slots + length ns.items)) (λ ns. fifth_name) Close (4 - length c.loop-names.names.items) c.loop-names.names (state c.loop-names.self) z in
+    record {
+      gives = subst (λ m. Gives m c.fifth_name.result (state c.fifth_name.new.self)) (sym f) c.fifth_name.ensures.gives;
+      same = search rules;
+      room = IfOk-weaker c.fifth_name.result (λ n. ⊥) (λ n. c.args.slots + length n.items ≤ 32) (λ n h. absurd h) c.fifth_name.ensures.never;
+    }

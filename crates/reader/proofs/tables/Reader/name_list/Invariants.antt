@@ -1,4 +1,4 @@
-use Rattle.std.proofs.Common.{◌≡◌, ◌+◌, ◌-◌, ◌≤◌}
+use Rattle.std.proofs.Common.{◌≡◌, ◌+◌, ◌-◌, ◌≤◌, length}
 use Rattle.words.specs.declared.token.Mark.TheVariants.{Close}
 use Rattle.reader.specs.Cursor.{state, Same}
 use Rattle.reader.specs.Lists.{series}
@@ -7,10 +7,9 @@ use Rattle.reader.proofs.tables.Reader.name_list.Given as goal
 
 abbrev pub invariant-loop-names : goal.invariant-loop-names
 invariant-loop-names l =
-    (l.names.count ≤ 4)
-    × (l.slots + l.names.count ≤ 32)
-    × (name_list l.text l.slots (state l.initial.self) ≡ series also (λ ns. new_name l.text (l.slots + ns.count)) (λ ns. fifth_name l.text) l.text Close (4 - l.names.count) l.names (state l.self))
+    (l.slots + length l.names.items ≤ 32)
+    × (name_list l.slots (state l.initial.self) ≡ series also (λ ns. new_name (l.slots + length ns.items)) (λ ns. fifth_name) Close (4 - length l.names.items) l.names (state l.self))
     × Same l.self l.initial.self
 
 abbrev pub decreases-loop-names : goal.decreases-loop-names
-decreases-loop-names l = 4 - l.names.count
+decreases-loop-names l = 5 - length l.names.items

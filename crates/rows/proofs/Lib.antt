@@ -1,2 +1,0 @@
-pub mod Clamped
-pub mod Fours
