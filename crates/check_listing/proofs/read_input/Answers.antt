@@ -1,18 +1,15 @@
-use Rattle.std.proofs.Common.{◌≡◌, ℕ, List, ◌++◌, take, Some, None, Option, IfSome, ap, ◌∙◌, subst, arith, length-take}
-use Rattle.std.proofs.lemmas.List.{take_all}
-use Rattle.std.specs.Option.{option_map}
-use Rattle.std.specs.Io.Take.{take_inner, take_remaining}
+use Rattle.std.proofs.Common.{◌≡◌, ◌≤◌, ℕ, List, ◌++◌, length, take, IfSome, sym, ◌∙◌, subst, arith}
+use Rattle.std.proofs.lemmas.List.{take-take, take-append-le}
 use Rattle.check_listing.proofs.read_input.Goals as goal
 
--- what is known of the bytes up to a limit is known of all of them, and a second limit is none
-up_to : (n : ℕ) (text : List ℕ) (bytes : Option (List ℕ)) → IfSome (option_map (take n) bytes) (λ xs. text ≡ xs) → IfSome bytes (λ xs. take n text ≡ take n xs)
-up_to n text None h = h
-up_to n text (Some xs) h = ap (take n) h ∙ take_all n (take n xs) (omega (arith, length-take n xs))
+-- a front that lies in the first part
+front : (n m : ℕ) (xs zs : List ℕ) → n ≤ m → n ≤ length xs → take n (take m (xs ++ zs)) ≡ take n xs
+front n m xs zs p q = take-take n m (xs ++ zs) p ∙ take-append-le n xs zs q
 
 pub returns-clause-bytes : goal.returns-clause-bytes
 returns-clause-bytes g c =
-    let limited = ap (λ n. option_map (take n) (g.R.Read.remaining (take_inner c.take.result))) c.take.ensures.limit
-    ∙ ap (λ input. option_map (take 32769) (g.R.Read.remaining input)) c.take.ensures.inner in
-    let empty = ap (λ xs. IfSome (take_remaining g.R.Read.remaining c.take.result) (λ ys. c.read_to_end.new.buf.items ≡ xs ++ ys)) c.new-text.ensures.items in
-    let known = up_to 32769 c.read_to_end.new.buf.items (g.R.Read.remaining c.args.input) (subst (λ o. IfSome o (λ xs. c.read_to_end.new.buf.items ≡ xs)) limited (subst (λ A. A) empty c.in_ok-_read.ensures.bytes)) in
-    rw c.truncate.ensures.items known
+    let room : length c.as_mut_slice.result.now ≡ 32769 = omega (arith, c.as_mut_slice.ensures.len, c.in_ok-text.ensures.len) in
+    let inside : c.in_ok-n.n ≤ length c.fill.new.buffer = omega (arith, c.in_ok-n.ensures.count, c.fill.auto.buffer) in
+    let kept : c.truncate.new.self.items ≡ take c.in_ok-n.n c.fill.new.buffer = c.truncate.ensures.items ∙ front c.in_ok-n.n _ c.fill.new.buffer _ (omega (arith, c.in_ok-n.ensures.count, c.as_mut_slice.ensures.len)) inside in
+    subst (λ k. IfSome (g.R.Read.remaining c.args.input) (λ bytes. c.truncate.new.self.items ≡ take k bytes)) room
+    (subst (λ z. IfSome (g.R.Read.remaining c.args.input) (λ bytes. z ≡ take (length c.as_mut_slice.result.now) bytes)) (sym kept) c.in_ok-n.ensures.bytes)
