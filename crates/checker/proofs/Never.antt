@@ -1,5 +1,5 @@
 -- No text is refused for the number of its rows, or for a term row.
-use Rattle.std.proofs.Common.{◌≡◌, ℕ, zero, suc, ◌+◌, ◌≢◌, List, Some, None, Ok, Err, Result, sym, refl, subst, arith}
+use Rattle.std.proofs.Common.{◌≡◌, ℕ, zero, suc, ◌+◌, ◌≢◌, List, Ok, Err, Result, sym, refl, subst, arith}
 use Rattle.levels.specs.Meaning.{Meaning}
 use Rattle.rows.specs.declared.process.ProcessRow.{ProcessRow}
 use Rattle.rows.specs.Processes.{row, end_of}
@@ -10,7 +10,7 @@ use Rattle.shape.specs.Whole.{shape}
 use Rattle.typing.specs.declared.misuse.Misuse.{Misuse}
 use Rattle.typing.specs.declared.misuse.Misuse.TheVariants.{Kind, Part, Count, Message}
 use Rattle.typing.specs.declared.judging.Judgement.{Judgement}
-use Rattle.typing.specs.declared.judging.Judgement.TheVariants.{Done, Binds, Splits, Opens}
+use Rattle.typing.specs.declared.judging.Judgement.TheVariants.{Done, Binds, Splits, Opens, OpensOnce}
 use Rattle.typing.specs.Judging.{zeros, reads, extended}
 use Rattle.words.specs.declared.token.WordFault.TheVariants.{Byte, Long}
 use Rattle.scanning.specs.declared.fault.ListingFault.{ListingFault}
@@ -64,8 +64,8 @@ module _ (ps : List ProcessRow) (go : List ℕ → ℕ → Passes Refusal) (p : 
   never_follow Γ i (Ok Done) = tt
   never_follow Γ i (Ok (Binds new)) = p (extended (row ps i) Γ new) (i + 1)
   never_follow Γ i (Ok Splits) = never_both (go Γ (i + 1)) (go Γ (end_of ps (i + 1))) (p Γ (i + 1)) (p Γ (end_of ps (i + 1)))
-  never_follow Γ i (Ok (Opens (Some new))) = never_both (go (extended (row ps i) Γ new) (i + 1)) (go (extended (row ps i) Γ zeros) (i + 1)) (p (extended (row ps i) Γ new) (i + 1)) (p (extended (row ps i) Γ zeros) (i + 1))
-  never_follow Γ i (Ok (Opens None)) = p (extended (row ps i) Γ zeros) (i + 1)
+  never_follow Γ i (Ok (Opens new)) = never_both (go (extended (row ps i) Γ new) (i + 1)) (go (extended (row ps i) Γ zeros) (i + 1)) (p (extended (row ps i) Γ new) (i + 1)) (p (extended (row ps i) Γ zeros) (i + 1))
+  never_follow Γ i (Ok OpensOnce) = p (extended (row ps i) Γ zeros) (i + 1)
   never_follow Γ i (Err e) = misused e i
 
 never_from : (m : Meaning) (T : Tables) (depth : ℕ) (Γ : List ℕ) (i : ℕ) → Never refusal_number (check_from m T depth Γ i)

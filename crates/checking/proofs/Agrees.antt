@@ -1,5 +1,5 @@
 -- The verdict that is computed and the typing rules agree.
-use Rattle.std.proofs.Common.{◌≡◌, ℕ, zero, suc, ◌+◌, ◌<◌, ◌≤◌, List, length, Some, None, Ok, Err, Result, sym, refl, ap, ◌∙◌, arith}
+use Rattle.std.proofs.Common.{◌≡◌, ℕ, zero, suc, ◌+◌, ◌<◌, ◌≤◌, List, length, Ok, Err, Result, sym, refl, ap, ◌∙◌, arith}
 use Rattle.levels.specs.Meaning.{Meaning}
 use Rattle.rows.specs.declared.process.ProcessRow.{ProcessRow}
 use Rattle.rows.specs.Processes.{row, end_of}
@@ -11,7 +11,7 @@ use Rattle.shape.proofs.Shaped.{Shaped}
 use Rattle.shape.proofs.Reached.{shaped}
 use Rattle.typing.specs.declared.misuse.Misuse.{Misuse}
 use Rattle.typing.specs.declared.judging.Judgement.{Judgement}
-use Rattle.typing.specs.declared.judging.Judgement.TheVariants.{Done, Binds, Splits, Opens}
+use Rattle.typing.specs.declared.judging.Judgement.TheVariants.{Done, Binds, Splits, Opens, OpensOnce}
 use Rattle.typing.specs.Judging.{zeros, reads, extended}
 use Rattle.typing.specs.Rules.{Typed}
 use Rattle.typing.proofs.Premises.{Premises}
@@ -35,8 +35,8 @@ module _ (m : Meaning) (T : Tables) where
   accepts_after go ok Γ i (Ok Done) p = refl
   accepts_after go ok Γ i (Ok (Binds new)) p = ok _ _ p
   accepts_after go ok Γ i (Ok Splits) p = ap (λ v. first_of v (go Γ (end_of ps (i + 1)))) (ok _ _ p.0) ∙ ok _ _ p.1
-  accepts_after go ok Γ i (Ok (Opens (Some new))) p = ap (λ v. first_of v (go (extended (row ps i) Γ zeros) (i + 1))) (ok _ _ p.0) ∙ ok _ _ p.1
-  accepts_after go ok Γ i (Ok (Opens None)) p = ok _ _ p
+  accepts_after go ok Γ i (Ok (Opens new)) p = ap (λ v. first_of v (go (extended (row ps i) Γ zeros) (i + 1))) (ok _ _ p.0) ∙ ok _ _ p.1
+  accepts_after go ok Γ i (Ok OpensOnce) p = ok _ _ p
   accepts_after go ok Γ i (Err e) p = absurd p
 
   accepts : (f : ℕ) (Γ : List ℕ) (i : ℕ) → Typed m T Γ i → check_from m T f Γ i ≡ Ok tt
@@ -55,10 +55,10 @@ module _ (m : Meaning) (T : Tables) where
         go Γ (i + 1) n.0.left.inside (omega arith) w.0,
         go Γ (end_of ps (i + 1)) n.0.right.inside (omega (arith, sh.above (i + 1) n.0.left.inside)) w.1,
       )
-  premises sh f Γ i (Ok (Opens (Some new))) fuel n go a =
+  premises sh f Γ i (Ok (Opens new)) fuel n go a =
       let w = both_pass (check_from m T f (extended (row ps i) Γ new) (i + 1)) (check_from m T f (extended (row ps i) Γ zeros) (i + 1)) a in
       (go _ (i + 1) n.0.child.inside (omega arith) w.0, go _ (i + 1) n.0.child.inside (omega arith) w.1)
-  premises sh f Γ i (Ok (Opens None)) fuel n go a = go _ (i + 1) n.0.child.inside (omega arith) a
+  premises sh f Γ i (Ok OpensOnce) fuel n go a = go _ (i + 1) n.0.child.inside (omega arith) a
   premises sh f Γ i (Err e) fuel n go a = absurd (cc)
 
   types : (sh : Shaped ps) (f : ℕ) (Γ : List ℕ) (i : ℕ) → i < length ps → length ps ≤ i + f → check_from m T f Γ i ≡ Ok tt → Typed m T Γ i

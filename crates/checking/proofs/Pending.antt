@@ -1,5 +1,5 @@
 -- How the place of the walk, its types and its stack stand for what is left to check.
-use Rattle.std.proofs.Common.{◌≡◌, ℕ, zero, suc, ◌+◌, ◌<◌, ◌≤◌, List, [], ◌∷◌, ◌++◌, length, take, replicate, Some, None, Option, Ok, Err, Result, sym, refl, ap, ◌∙◌, subst, le_trans, le_refl, arith}
+use Rattle.std.proofs.Common.{◌≡◌, ℕ, zero, suc, ◌+◌, ◌<◌, ◌≤◌, List, [], ◌∷◌, ◌++◌, length, take, replicate, Ok, Err, Result, sym, refl, ap, ◌∙◌, subst, le_trans, le_refl, arith}
 use Rattle.std.proofs.lemmas.List.{take-replicate}
 use Rattle.levels.specs.Meaning.{Meaning}
 use Rattle.rows.specs.declared.types.TypeKind.TheVariants.{Chan, Sym, Dec}
@@ -16,7 +16,7 @@ use Rattle.typing.specs.declared.misuse.Misuse.{Misuse}
 use Rattle.typing.specs.declared.usage.Usage.{Usage}
 use Rattle.typing.specs.declared.usage.Usage.TheVariants.{Declared, Open}
 use Rattle.typing.specs.declared.judging.Judgement.{Judgement}
-use Rattle.typing.specs.declared.judging.Judgement.TheVariants.{Done, Binds, Splits, Opens}
+use Rattle.typing.specs.declared.judging.Judgement.TheVariants.{Done, Binds, Splits, Opens, OpensOnce}
 use Rattle.typing.specs.Terms.{types_of_run, and_then}
 use Rattle.typing.specs.Usage.{used, verified, by_use}
 use Rattle.typing.specs.Judging.{zeros, judge, reads, extended, operand_type, sent_types}
@@ -117,7 +117,8 @@ abbrev pub NextOf : List ProcessRow → ℕ → Result Judgement Misuse → Type
 NextOf ps i (Ok Done) = end_of ps i ≡ i + 1
 NextOf ps i (Ok (Binds new)) = One ps i
 NextOf ps i (Ok Splits) = Two ps i × (adds (row ps i) ≡ 0)
-NextOf ps i (Ok (Opens o)) = One ps i × ((row ps i).kind ≡ Aopen)
+NextOf ps i (Ok (Opens new)) = One ps i × ((row ps i).kind ≡ Aopen)
+NextOf ps i (Ok OpensOnce) = One ps i × ((row ps i).kind ≡ Aopen)
 NextOf ps i (Err e) = Unit {0}
 
 by_both : (P : Result Judgement Misuse → Type 0) (u : Result Usage Misuse) (d o : Judgement) → P (Ok d) → P (Ok o) → ((e : Misuse) → P (Err e)) → P (by_use u d o)
@@ -140,7 +141,7 @@ next_by m ts us ps i If e fam = (fam, ap (λ k. adds_by k (row ps i).count) e)
 next_by m ts us ps i Sopen e fam = once (used m ts (operand_type us (row ps i) 1) Sym (row ps i).count []) (operand_type us (row ps i) 1).payload fam
 next_by m ts us ps i Aopen e fam =
     let both : One ps i × ((row ps i).kind ≡ Aopen) = (fam, e) in
-    by_both (NextOf ps i) (used m ts (operand_type us (row ps i) 1) Dec (row ps i).count []) (Opens (Some (operand_type us (row ps i) 1).payload)) (Opens None) both both (λ e. tt)
+    by_both (NextOf ps i) (used m ts (operand_type us (row ps i) 1) Dec (row ps i).count []) (Opens (operand_type us (row ps i) 1).payload) OpensOnce both both (λ e. tt)
 next_by m ts us ps i Verify e fam = once (verified m ts (operand_type us (row ps i) 1) (row ps i).count (operand_type us (row ps i) 0)) (operand_type us (row ps i) 1).payload fam
 
 next_judged : (m : Meaning) (ts : List TypeRow) (ps : List ProcessRow) (i : ℕ) (r : Result (List TypeRow) Misuse) → Family ps i (row ps i).kind → NextOf ps i (and_then r (λ us. judge m ts us (row ps i) (row ps i).kind))
@@ -287,35 +288,43 @@ module _ (m : Meaning) (T : Tables) (whole : Passes Refusal) where
           same = sym (first_of_assoc (check_from m T n.f Γ (i + 1)) (check_from m T n.f Γ (end_of ps (i + 1))) (joint m T n.js)) ∙ read_as env i es n (Ok Splits) e;
         }
 
-    pub step_room : (o : Option (List ℕ)) → reads m T (take (slots_of ps i) env) i ≡ Ok (Opens o) → length es < 6
-    step_room o e =
+    room : i < length ps → length es ≤ enclosing ps i → (row ps i).kind ≡ Aopen → length es < 6
+    room inside deep opened = omega (arith, deep, a.shaped.deep i inside opened)
+
+    pub step_room : (new : List ℕ) → reads m T (take (slots_of ps i) env) i ≡ Ok (Opens new) → length es < 6
+    step_room new e =
         let n = now_in a.laid a.same h in
-        omega (arith, n.here.deep, a.shaped.deep i n.here.inside (asked a.shaped _ i (Ok (Opens o)) n.here.inside e).1)
+        room n.here.inside n.here.deep (asked a.shaped _ i (Ok (Opens new)) n.here.inside e).1
+
+    pub step_room_once : reads m T (take (slots_of ps i) env) i ≡ Ok OpensOnce → length es < 6
+    step_room_once e =
+        let n = now_in a.laid a.same h in
+        room n.here.inside n.here.deep (asked a.shaped _ i (Ok OpensOnce) n.here.inside e).1
 
     -- an open key: what follows is read once
-    pub step_once : {env' : List ℕ} → reads m T (take (slots_of ps i) env) i ≡ Ok (Opens None) → Entered ps i env env' zeros → At m T env' (i + 1) (last i ∷ es) whole
+    pub step_once : {env' : List ℕ} → reads m T (take (slots_of ps i) env) i ≡ Ok OpensOnce → Entered ps i env env' zeros → At m T env' (i + 1) (last i ∷ es) whole
     step_once e ent =
         let n = now_in a.laid a.same h in
         let sh = a.shaped in
-        let one = (asked sh _ i (Ok (Opens None)) n.here.inside e).0 in
-        let opened = (asked sh _ i (Ok (Opens None)) n.here.inside e).1 in
+        let one = (asked sh _ i (Ok OpensOnce) n.here.inside e).0 in
+        let opened = (asked sh _ i (Ok OpensOnce) n.here.inside e).1 in
         let Γ = take (slots_of ps i) env in
         record {
           shaped = sh;
           bnd = slots_of ps (i + 1);
           jobs = job n.f (extended (row ps i) Γ zeros) (i + 1) ∷ n.js;
           laid = child ps sh i n.f Γ one ent refl (le_refl _) (omega (arith, n.here.fuel)) (omega (arith, n.here.deep, deeper ps sh i one opened))
-              (back i one.ends n.here.inside (step_room None e) (widen (more_slots ps sh i one) (moved ps sh i one ent n.tail)));
-          same = read_as env i es n (Ok (Opens None)) e;
+              (back i one.ends n.here.inside (step_room_once e) (widen (more_slots ps sh i one) (moved ps sh i one ent n.tail)));
+          same = read_as env i es n (Ok OpensOnce) e;
         }
 
     -- a declared key: what follows is read twice
-    pub step_twice : {env' : List ℕ} (new : List ℕ) → reads m T (take (slots_of ps i) env) i ≡ Ok (Opens (Some new)) → Entered ps i env env' new → At m T env' (i + 1) (due i ∷ es) whole
+    pub step_twice : {env' : List ℕ} (new : List ℕ) → reads m T (take (slots_of ps i) env) i ≡ Ok (Opens new) → Entered ps i env env' new → At m T env' (i + 1) (due i ∷ es) whole
     step_twice new e ent =
         let n = now_in a.laid a.same h in
         let sh = a.shaped in
-        let one = (asked sh _ i (Ok (Opens (Some new))) n.here.inside e).0 in
-        let opened = (asked sh _ i (Ok (Opens (Some new))) n.here.inside e).1 in
+        let one = (asked sh _ i (Ok (Opens new)) n.here.inside e).0 in
+        let opened = (asked sh _ i (Ok (Opens new)) n.here.inside e).1 in
         let Γ = take (slots_of ps i) env in
         record {
           shaped = sh;
@@ -333,7 +342,7 @@ module _ (m : Meaning) (T : Tables) (whole : Passes Refusal) where
               })
               (ent.below _ (le_refl _))
               (moved ps sh i one ent n.tail));
-          same = sym (first_of_assoc (check_from m T n.f (extended (row ps i) Γ new) (i + 1)) (check_from m T n.f (extended (row ps i) Γ zeros) (i + 1)) (joint m T n.js)) ∙ read_as env i es n (Ok (Opens (Some new))) e;
+          same = sym (first_of_assoc (check_from m T n.f (extended (row ps i) Γ new) (i + 1)) (check_from m T n.f (extended (row ps i) Γ zeros) (i + 1)) (joint m T n.js)) ∙ read_as env i es n (Ok (Opens new)) e;
         }
 
     pub step_refuses : (x : Misuse) → reads m T (take (slots_of ps i) env) i ≡ Err x → Err (Typing x i) ≡ whole

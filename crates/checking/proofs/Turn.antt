@@ -1,5 +1,5 @@
 -- What a turn of the walk keeps, and that each turn keeps it.
-use Rattle.std.proofs.Common.{◌≡◌, ℕ, ◌+◌, ◌-◌, ◌<◌, ◌≤◌, Bool, true, false, List, ◌∷◌, length, get_or, take, set, replicate, Some, None, Option, is_some, unwrap_or, Ok, Err, Result, sym, refl, ap, ◌∙◌, subst, arith, length-set}
+use Rattle.std.proofs.Common.{◌≡◌, ℕ, ◌+◌, ◌-◌, ◌<◌, ◌≤◌, Bool, true, false, List, ◌∷◌, length, get_or, take, set, replicate, Ok, Err, Result, sym, refl, ap, ◌∙◌, subst, arith, length-set}
 use Rattle.std.proofs.lemmas.List.{get_or-take, length-take-le}
 use Rattle.levels.specs.Meaning.{Meaning}
 use Rattle.rows.specs.declared.process.ProcessRow.{ProcessRow}
@@ -9,13 +9,14 @@ use Rattle.shape.specs.First.{Passes}
 use Rattle.shape.proofs.Shaped.{Shaped}
 use Rattle.typing.specs.declared.misuse.Misuse.{Misuse}
 use Rattle.typing.specs.declared.judging.Judgement.{Judgement}
-use Rattle.typing.specs.declared.judging.Judgement.TheVariants.{Done, Binds, Splits, Opens}
+use Rattle.typing.specs.declared.judging.Judgement.TheVariants.{Done, Binds, Splits, Opens, OpensOnce}
 use Rattle.typing.specs.Judging.{zeros, reads}
 use Rattle.checking.specs.declared.refusal.Refusal.{Refusal}
+use Rattle.checking.specs.declared.refusal.Refusal.TheVariants.{Typing}
 use Rattle.checking.specs.Stack.{limit_of}
-use Rattle.checking.specs.Verdict.{refused_at, rules}
+use Rattle.checking.specs.Verdict.{rules}
 use Rattle.checking.proofs.Entries.{Entry, last, entry, held, limit, limit_is, length_held, held_push, held_top, held_again}
-use Rattle.checking.proofs.Pending.{At, Entered, within, held_inside, start, finish, step_inside, step_done, step_binds, step_splits, step_once, step_twice, step_room, step_refuses, step_again, step_back}
+use Rattle.checking.proofs.Pending.{At, Entered, within, held_inside, start, finish, step_inside, step_done, step_binds, step_splits, step_once, step_twice, step_room, step_room_once, step_refuses, step_again, step_back}
 use Rattle.checking.proofs.Weight.{weight, weight_falls, weight_pushes, weight_again, weight_back}
 
 -- where the walk stands: the row, the types, and the two arrays of the stack
@@ -94,12 +95,8 @@ module _ {m : Meaning} {T : Tables} {env : List ℕ} {i top : ℕ} {stack : List
     abbrev row_at : Result Judgement Misuse
     row_at = reads m T (take (slots_of ps i) env) i
 
-    pub read_ok : (j k : Judgement) → j ≡ k → Ok j ≡ refused_at i row_at → row_at ≡ Ok k
-    read_ok j k p e = by row_at refl e
-      where
-        by : (r : Result Judgement Misuse) → row_at ≡ r → Ok j ≡ refused_at i r → row_at ≡ Ok k
-        by (Ok x) q e = cc
-        by (Err x) q e = absurd (cc)
+    pub read_ok : (r : Result Judgement Misuse) (j k : Judgement) → r ≡ Ok j → j ≡ k → r ≡ row_at → row_at ≡ Ok k
+    read_ok r j k p q e = sym e ∙ p ∙ ap Ok q
 
     -- an arm that leaves the stack
     plain_turn : {env' : List ℕ} → length env' ≡ length env → At m T env' (i + 1) es whole → Turn m T env' (i + 1) top stack dues whole
@@ -123,43 +120,50 @@ module _ {m : Meaning} {T : Tables} {env : List ℕ} {i top : ℕ} {stack : List
         → Turn m T env' (i + 1) top stack dues whole
     on_binds env' new e ent l = plain_turn l (step_binds m T whole t.at (under is h) new e ent)
 
-    pub space : (o : Option (List ℕ)) → row_at ≡ Ok (Opens o) → top < 6
-    space o e = omega (arith, step_room m T whole t.at (under is h) o e, length_held top stack dues)
+    pub space : (new : List ℕ) → row_at ≡ Ok (Opens new) → top < 6
+    space new e = omega (arith, step_room m T whole t.at (under is h) new e, length_held top stack dues)
 
-    opened_at : (env' : List ℕ) (o : Option (List ℕ)) → row_at ≡ Ok (Opens o) → Entered ps i env env' (unwrap_or o zeros) → At m T env' (i + 1) (entry (is_some o) i ∷ es) whole
-    opened_at env' (Some new) e ent = step_twice m T whole t.at (under is h) new e ent
-    opened_at env' None e ent = step_once m T whole t.at (under is h) e ent
+    pub space_once : row_at ≡ Ok OpensOnce → top < 6
+    space_once e = omega (arith, step_room_once m T whole t.at (under is h) e, length_held top stack dues)
 
-    pushed : (o : Option (List ℕ)) → row_at ≡ Ok (Opens o) → held (top + 1) (set stack top i) (set dues top (is_some o)) ≡ entry (is_some o) i ∷ es
-    pushed o e = held_push top stack dues i (is_some o) (omega (arith, space o e, t.stack_long)) (omega (arith, space o e, t.dues_long))
+    pushed : (b : Bool) → top < 6 → held (top + 1) (set stack top i) (set dues top b) ≡ entry b i ∷ es
+    pushed b k = held_push top stack dues i b (omega (arith, k, t.stack_long)) (omega (arith, k, t.dues_long))
 
-    pub on_opens : (env' new : List ℕ) (o : Option (List ℕ)) (b : Bool) → row_at ≡ Ok (Opens o)
-        → new ≡ unwrap_or o zeros → b ≡ is_some o → Entered ps i env env' new → length env' ≡ length env
+    -- an arm that pushes the row
+    push_turn : {env' : List ℕ} (b : Bool) → top < 6 → length env' ≡ length env → At m T env' (i + 1) (entry b i ∷ es) whole
         → Turn m T env' (i + 1) (top + 1) (set stack top i) (set dues top b) whole
-    on_opens env' new o b e p q ent l =
-        rw q (record {
-          few = omega (arith, space o e);
+    push_turn {env' = env'} b k l a =
+        record {
+          few = omega (arith, k);
           within_rows = omega (arith, on);
           env_long = l ∙ t.env_long;
           stack_long = length-set stack top i ∙ t.stack_long;
-          dues_long = length-set dues top (is_some o) ∙ t.dues_long;
-          at = subst (λ k. At m T env' (i + 1) k whole) (sym (pushed o e)) (opened_at env' o e (subst (Entered ps i env env') p ent));
-        })
+          dues_long = length-set dues top b ∙ t.dues_long;
+          at = subst (λ k. At m T env' (i + 1) k whole) (sym (pushed b k)) a;
+        }
 
-    pub on_refuses : (x : Refusal) → Err x ≡ refused_at i row_at → Err x ≡ whole
-    on_refuses x e = by row_at refl e
-      where
-        by : (r : Result Judgement Misuse) → row_at ≡ r → Err x ≡ refused_at i r → Err x ≡ whole
-        by (Ok y) q e = absurd (cc)
-        by (Err y) q e = let z = step_refuses m T whole t.at (under is h) y q in cc
+    pub on_opens : (env' new : List ℕ) → row_at ≡ Ok (Opens new) → Entered ps i env env' new → length env' ≡ length env
+        → Turn m T env' (i + 1) (top + 1) (set stack top i) (set dues top true) whole
+    on_opens env' new e ent l = push_turn true (space new e) l (step_twice m T whole t.at (under is h) new e ent)
+
+    pub on_opens_once : (env' : List ℕ) → row_at ≡ Ok OpensOnce → Entered ps i env env' zeros → length env' ≡ length env
+        → Turn m T env' (i + 1) (top + 1) (set stack top i) (set dues top false) whole
+    on_opens_once env' e ent l = push_turn false (space_once e) l (step_once m T whole t.at (under is h) e ent)
+
+    pub on_refuses : (r : Result Judgement Misuse) (x : Misuse) → r ≡ Err x → r ≡ row_at → Err (Typing x i) ≡ whole
+    on_refuses r x p e = step_refuses m T whole t.at (under is h) x (sym e ∙ p)
 
     pub falls : weight (length ps) (i + 1) es < weight (length ps) i es
     falls = weight_falls (length ps) i es on
 
-    pub falls_opens : (o : Option (List ℕ)) (b : Bool) → row_at ≡ Ok (Opens o) → b ≡ is_some o
-        → weight (length ps) (i + 1) (held (top + 1) (set stack top i) (set dues top b)) < weight (length ps) i es
-    falls_opens o b e q =
-        rw (q, pushed o e) (weight_pushes (length ps) i (is_some o) es (omega (arith, space o e, length_held top stack dues)))
+    falls_push : (b : Bool) → top < 6 → weight (length ps) (i + 1) (held (top + 1) (set stack top i) (set dues top b)) < weight (length ps) i es
+    falls_push b k = rw (pushed b k) (weight_pushes (length ps) i b es (omega (arith, k, length_held top stack dues)))
+
+    pub falls_opens : (new : List ℕ) → row_at ≡ Ok (Opens new) → weight (length ps) (i + 1) (held (top + 1) (set stack top i) (set dues top true)) < weight (length ps) i es
+    falls_opens new e = falls_push true (space new e)
+
+    pub falls_opens_once : row_at ≡ Ok OpensOnce → weight (length ps) (i + 1) (held (top + 1) (set stack top i) (set dues top false)) < weight (length ps) i es
+    falls_opens_once e = falls_push false (space_once e)
 
   -- the second reading of the innermost aopen begins
   pub on_again : {stop : ℕ} (env' : List ℕ) → 0 < top → stop ≡ stops → stop ≤ i → get_or dues (top - 1) false ≡ true

@@ -1,5 +1,5 @@
 -- The verdict on a listing: its shape first, and then the first refusal of the typing rules in reading order.
-use Rattle.std.specs.Prelude.{ℕ, zero, suc, ◌+◌, List, length, replicate, Some, None, Ok, Err, Result}
+use Rattle.std.specs.Prelude.{ℕ, zero, suc, ◌+◌, List, length, replicate, Ok, Err, Result}
 use Rattle.levels.specs.Meaning.{Meaning}
 use Rattle.rows.specs.declared.process.ProcessRow.{ProcessRow}
 use Rattle.rows.specs.Processes.{row, end_of, slots_of}
@@ -9,23 +9,18 @@ use Rattle.shape.specs.First.{Passes, first_of}
 use Rattle.shape.specs.Whole.{shape}
 use Rattle.typing.specs.declared.misuse.Misuse.{Misuse}
 use Rattle.typing.specs.declared.judging.Judgement.{Judgement}
-use Rattle.typing.specs.declared.judging.Judgement.TheVariants.{Done, Binds, Splits, Opens}
+use Rattle.typing.specs.declared.judging.Judgement.TheVariants.{Done, Binds, Splits, Opens, OpensOnce}
 use Rattle.typing.specs.Judging.{zeros, reads, extended}
 use Rattle.checking.specs.declared.refusal.Refusal.{Refusal}
 use Rattle.checking.specs.declared.refusal.Refusal.TheVariants.{Shape, Typing}
-
--- a misuse is refused with the row
-abbrev pub refused_at : ℕ → Result Judgement Misuse → Result Judgement Refusal
-refused_at i (Ok j) = Ok j
-refused_at i (Err e) = Err (Typing e i)
 
 -- what is checked after the row i, by `go`: the first child, and then the second or the second reading
 abbrev pub follow : List ProcessRow → (List ℕ → ℕ → Passes Refusal) → List ℕ → ℕ → Result Judgement Misuse → Passes Refusal
 follow ps go Γ i (Ok Done) = Ok tt
 follow ps go Γ i (Ok (Binds new)) = go (extended (row ps i) Γ new) (i + 1)
 follow ps go Γ i (Ok Splits) = first_of (go Γ (i + 1)) (go Γ (end_of ps (i + 1)))
-follow ps go Γ i (Ok (Opens (Some new))) = first_of (go (extended (row ps i) Γ new) (i + 1)) (go (extended (row ps i) Γ zeros) (i + 1))
-follow ps go Γ i (Ok (Opens None)) = go (extended (row ps i) Γ zeros) (i + 1)
+follow ps go Γ i (Ok (Opens new)) = first_of (go (extended (row ps i) Γ new) (i + 1)) (go (extended (row ps i) Γ zeros) (i + 1))
+follow ps go Γ i (Ok OpensOnce) = go (extended (row ps i) Γ zeros) (i + 1)
 follow ps go Γ i (Err e) = Err (Typing e i)
 
 -- the row i and what follows it, at most `depth` rows down

@@ -6,13 +6,13 @@ ghost use Rattle.shape.specs.Whole.{shape};
 ghost use Rattle.typing.specs.Judging.{reads};
 ghost use Rattle.checking.specs.Stack.{limit_of};
 ghost use Rattle.checking.specs.Theorems.{Decides, ByAnswers};
-ghost use Rattle.checking.specs.Verdict.{refused_at, rules, verdict};
+ghost use Rattle.checking.specs.Verdict.{rules, verdict};
 
 use crate::refusal::Refusal;
 use levels::Scheme;
 use rows::{Listing, ProcessRow, TypeRow};
 use shape::in_shape;
-use typing::{Judgement, Rules};
+use typing::{Judgement, Misuse, Rules};
 
 // Writes the types that a row binds into its new slots.
 fn enter(env: &mut [u16], row: ProcessRow, new: &[u16])
@@ -39,28 +39,25 @@ fn stop_at(rows: &[ProcessRow], aopens: &[u16]) -> u16
     }
 }
 
-// What row `i` comes to, where the first types of `env` are those of its slots; a misuse is refused
-// with the row.
+// What row `i` comes to, where the first types of `env` are those of its slots.
 fn judge_at<S: Scheme>(
     s: &S,
     l: Listing,
     i: u16,
     env: &[u16],
     seen: &mut [TypeRow],
-) -> Result<Judgement, Refusal>
+) -> Result<Judgement, Misuse>
     requires inside { i < length l.processes.now }
     requires scope { slots_of l.processes.now i ≤ length env.now }
     requires room { length l.terms.now ≤ length seen.old }
-    ensures { result ≡ refused_at i (reads (means S.Scheme s.now) (tables l.entry) (take (slots_of l.entry.processes.now i) env.now) i) }
+    ensures { result ≡ reads (means S.Scheme s.now) (tables l.entry) (take (slots_of l.entry.processes.now i) env.now) i }
 {
     let row = l.processes[i as usize];
     let rules = Rules {
         scheme: s,
         types: l.types,
     };
-    rules
-        .judge_row(l.terms, &env[..row.slots as usize], row, seen)
-        .map_err(|misuse| Refusal::Typing(misuse, i as usize))
+    rules.judge_row(l.terms, &env[..row.slots as usize], row, seen)
 }
 
 // Reads the rows in order. `stack` has an entry for each aopen on the way down, and `due` says whether
@@ -81,14 +78,23 @@ fn walk<S: Scheme>(s: &S, l: Listing) -> Result<(), Refusal>
     'turn: loop {
         if i < stop_at(rows, &stack[..top]) {
             let row = rows[i as usize];
-            let judgement = judge_at(s, l, i, &env, &mut seen)?;
+            let judgement = match judge_at(s, l, i, &env, &mut seen) {
+                Ok(judgement) => judgement,
+                Err(misuse) => return Err(Refusal::Typing(misuse, i as usize)),
+            };
             match judgement {
                 Judgement::Done | Judgement::Splits => {}
                 Judgement::Binds(new) => enter(&mut env, row, &new),
-                Judgement::Opens(payload) => {
-                    enter(&mut env, row, &payload.unwrap_or([0; 4]));
+                Judgement::Opens(new) => {
+                    enter(&mut env, row, &new);
                     stack[top] = i;
-                    due[top] = payload.is_some();
+                    due[top] = true;
+                    top += 1;
+                }
+                Judgement::OpensOnce => {
+                    enter(&mut env, row, &[0; 4]);
+                    stack[top] = i;
+                    due[top] = false;
                     top += 1;
                 }
             }

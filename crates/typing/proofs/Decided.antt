@@ -1,5 +1,5 @@
 -- A row is typed by the rules exactly where what it comes to asks for what follows.
-use Rattle.std.proofs.Common.{◌≡◌, ℕ, ◌+◌, cond, List, [], ◌∷◌, ◌++◌, take, Some, None, Ok, Err, Result, sym, refl, ap, ◌∙◌, subst, append-nil}
+use Rattle.std.proofs.Common.{◌≡◌, ℕ, ◌+◌, cond, List, [], ◌∷◌, ◌++◌, take, Ok, Err, Result, sym, refl, ap, ◌∙◌, subst, append-nil}
 use Rattle.std.proofs.lemmas.List.Elements.{All-nil, All-head, All-cons}
 use Rattle.levels.specs.Meaning.{Meaning, public}
 use Rattle.rows.specs.declared.types.TypeKind.TheVariants.{Chan, Sym, Dec, Ver}
@@ -12,7 +12,7 @@ use Rattle.rows.specs.Tables.{Tables}
 use Rattle.typing.specs.declared.misuse.Misuse.{Misuse}
 use Rattle.typing.specs.declared.misuse.Misuse.TheVariants.{Message}
 use Rattle.typing.specs.declared.judging.Judgement.{Judgement}
-use Rattle.typing.specs.declared.judging.Judgement.TheVariants.{Binds, Opens}
+use Rattle.typing.specs.declared.judging.Judgement.TheVariants.{Binds, Opens, OpensOnce}
 use Rattle.typing.specs.Usage.{declared_use, open_use, misuse}
 use Rattle.typing.specs.Terms.{types_of_run, and_then}
 use Rattle.typing.specs.Judging.{zeros, operand_type, sent_types, judge}
@@ -68,7 +68,7 @@ module _ (m : Meaning) (T : Tables) (Γ : List ℕ) (i : ℕ) where
         key_cases m T.types second Sym p.count [] (Premises m T Γ i) (Binds second.payload) (Binds zeros) h
         (λ d x. Rules.sopen us e ht d (moved _ _ (slots Sopen second.payload e) x)) (λ w x. Rules.sopen_open us e ht w (moved _ _ (slots Sopen zeros e) x)) (λ z x. x)
     from_kind ht Aopen e h =
-        key_cases m T.types second Dec p.count [] (Premises m T Γ i) (Opens (Some second.payload)) (Opens None) h
+        key_cases m T.types second Dec p.count [] (Premises m T Γ i) (Opens second.payload) OpensOnce h
         (λ d x. Rules.aopen us e ht d (moved _ _ (slots Aopen second.payload e) x.0) (moved _ _ (slots Aopen zeros e) x.1))
         (λ w x. Rules.aopen_open us e ht w (moved _ _ (slots Aopen zeros e) x)) (λ z x. x)
     from_kind ht Verify e h =
@@ -123,10 +123,10 @@ module _ (m : Meaning) (T : Tables) (Γ : List ℕ) (i : ℕ) where
       to_kind us Sopen e ht (key_open m T.types k Sym p.count [] (Premises m T Γ i) (Binds k.payload) (Binds zeros) w (grown us Sopen zeros e x))
   typed_to (Rules.aopen us e ht d x y) =
       let k = second us in
-      to_kind us Aopen e ht (key_declared m T.types k Dec p.count [] (Premises m T Γ i) (Opens (Some k.payload)) (Opens None) d (grown us Aopen k.payload e x, grown us Aopen zeros e y))
+      to_kind us Aopen e ht (key_declared m T.types k Dec p.count [] (Premises m T Γ i) (Opens k.payload) OpensOnce d (grown us Aopen k.payload e x, grown us Aopen zeros e y))
   typed_to (Rules.aopen_open us e ht w x) =
       let k = second us in
-      to_kind us Aopen e ht (key_open m T.types k Dec p.count [] (Premises m T Γ i) (Opens (Some k.payload)) (Opens None) w (grown us Aopen zeros e x))
+      to_kind us Aopen e ht (key_open m T.types k Dec p.count [] (Premises m T Γ i) (Opens k.payload) OpensOnce w (grown us Aopen zeros e x))
   typed_to (Rules.verify us e ht d x) =
       let k = second us in
       to_kind us Verify e ht

@@ -1,11 +1,11 @@
 -- What the rules ask after a row, by what the row comes to.
-use Rattle.std.proofs.Common.{ℕ, ◌+◌, List, Some, None, Ok, Err, Result}
+use Rattle.std.proofs.Common.{ℕ, ◌+◌, List, Ok, Err, Result}
 use Rattle.levels.specs.Meaning.{Meaning}
 use Rattle.rows.specs.Processes.{row, end_of}
 use Rattle.rows.specs.Tables.{Tables}
 use Rattle.typing.specs.declared.misuse.Misuse.{Misuse}
 use Rattle.typing.specs.declared.judging.Judgement.{Judgement}
-use Rattle.typing.specs.declared.judging.Judgement.TheVariants.{Done, Binds, Splits, Opens}
+use Rattle.typing.specs.declared.judging.Judgement.TheVariants.{Done, Binds, Splits, Opens, OpensOnce}
 use Rattle.typing.specs.Judging.{zeros}
 pub use Rattle.typing.specs.Judging.{reads, extended}
 use Rattle.typing.specs.Rules.{Typed}
@@ -14,6 +14,6 @@ abbrev pub Premises : Meaning → Tables → List ℕ → ℕ → Result Judgeme
 Premises m T Γ i (Ok Done) = Unit {0}
 Premises m T Γ i (Ok (Binds new)) = Typed m T (extended (row T.processes i) Γ new) (i + 1)
 Premises m T Γ i (Ok Splits) = Typed m T Γ (i + 1) × Typed m T Γ (end_of T.processes (i + 1))
-Premises m T Γ i (Ok (Opens (Some new))) = Typed m T (extended (row T.processes i) Γ new) (i + 1) × Typed m T (extended (row T.processes i) Γ zeros) (i + 1)
-Premises m T Γ i (Ok (Opens None)) = Typed m T (extended (row T.processes i) Γ zeros) (i + 1)
+Premises m T Γ i (Ok (Opens new)) = Typed m T (extended (row T.processes i) Γ new) (i + 1) × Typed m T (extended (row T.processes i) Γ zeros) (i + 1)
+Premises m T Γ i (Ok OpensOnce) = Typed m T (extended (row T.processes i) Γ zeros) (i + 1)
 Premises m T Γ i (Err e) = ⊥

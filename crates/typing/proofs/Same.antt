@@ -8,7 +8,7 @@ use Rattle.rows.specs.Types.{same_kind, same_list, same_type}
 pub same_kind_decides : (a b : TypeKind) → Decides (same_kind a b) (a ≡ b)
 same_kind_decides a b = (λ h. search rules, λ e. search rules)
 
-list_eq : (xs ys : List ℕ) → same_list xs ys ≡ true → xs ≡ ys
+pub list_eq : (xs ys : List ℕ) → same_list xs ys ≡ true → xs ≡ ys
 list_eq [] [] h = refl
 list_eq [] (y ∷ ys) h = cc
 list_eq (x ∷ xs) [] h = cc
@@ -18,7 +18,7 @@ list_same : (xs : List ℕ) → same_list xs xs ≡ true
 list_same [] = refl
 list_same (x ∷ xs) = grind (arith, nat_tests, list_same xs)
 
-type_eq : (t u : TypeRow) → same_type t u ≡ true → t ≡ u
+pub type_eq : (t u : TypeRow) → same_type t u ≡ true → t ≡ u
 type_eq t u h = grind (arith, nat_tests, (same_kind_decides t.kind u.kind).0, list_eq t.payload u.payload)
 
 type_same : (t : TypeRow) → same_type t t ≡ true

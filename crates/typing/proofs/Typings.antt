@@ -18,7 +18,7 @@ use Rattle.typing.specs.Rules.{DeclaredUse, OpenUse, Public, TermRule, TermTyped
 use Rattle.typing.proofs.Relations.{public_decides}
 use Rattle.typing.proofs.Uses.{kind_declared, key_cases, key_declared, key_open}
 
-then_cases : {A B E X : Type 0} (r : Result A E) (f : A → Result B E) (b : B) → and_then r f ≡ Ok b → ((a : A) → r ≡ Ok a → f a ≡ Ok b → X) → X
+pub then_cases : {A B E X : Type 0} (r : Result A E) (f : A → Result B E) (b : B) → and_then r f ≡ Ok b → ((a : A) → r ≡ Ok a → f a ≡ Ok b → X) → X
 then_cases (Ok a) f b h k = k a refl h
 then_cases (Err e) f b h k = absurd (cc)
 
@@ -31,7 +31,7 @@ module _ (m : Meaning) (ts : List TypeRow) where
         (q ∙ ap plain (cond-false (all_public m (payload_types ts k)) (low m k) k.level e))
 
     -- the ways to make the type t
-    made_cases : {X : Type 0} (asked : TypeKind) (n' : ℕ) (us : List TypeRow) (u : TypeRow) → made m (used m ts k asked n' us) u ≡ Ok t
+    pub made_cases : {X : Type 0} (asked : TypeKind) (n' : ℕ) (us : List TypeRow) (u : TypeRow) → made m (used m ts k asked n' us) u ≡ Ok t
         → (DeclaredUse m ts asked n' k us → t ≡ u → X) → (OpenUse m ts asked n' k us → t ≡ plain m.opened → X) → X
     made_cases asked n' us u h f g =
         key_cases m ts k asked n' us (λ r. r ≡ Ok t) u (plain m.opened) h (λ d q. f d (cc)) (λ w q. g w (cc)) (λ e q. cc)
@@ -54,7 +54,7 @@ module _ (m : Meaning) (ts : List TypeRow) where
         inr (made_cases Sig n parts (plain (signature_level m ts k)) h
         (λ d q. signed_out d q (all_public m (payload_types ts k)) refl) (λ w q. Rules.sign_open w q))
 
-    rule_back : (slot : TypeRow) (kind : TermKind) → TermRule m ts k parts n t kind → composite m ts slot k parts n kind ≡ Ok t
+    pub rule_back : (slot : TypeRow) (kind : TermKind) → TermRule m ts k parts n t kind → composite m ts slot k parts n kind ≡ Ok t
     rule_back slot Slot r = elim r [ ]
     rule_back slot Ek (Rules.ek e q) = declared_made Dec k.count [] (key_type m Enc k) (kind_declared m ts k Dec e) q
     rule_back slot Ek (Rules.ek_open f o q) = open_made Dec k.count [] (key_type m Enc k) (λ d. f d.0, o, All-nil (Public m ts)) q

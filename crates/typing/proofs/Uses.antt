@@ -26,7 +26,7 @@ module _ {Y : Type 0} (P : Result Y Misuse → Type 0) (d o : Bool) (e : Misuse)
 
 module _ (m : Meaning) (ts : List TypeRow) where
   -- with no parts, any payload fits
-  no_parts_fit : (xs : List ℕ) → AllFit m ts xs []
+  pub no_parts_fit : (xs : List ℕ) → AllFit m ts xs []
   no_parts_fit [] = tt
   no_parts_fit (x ∷ xs) = tt
 

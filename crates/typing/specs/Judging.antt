@@ -1,5 +1,5 @@
 -- What a process row comes to.
-use Rattle.std.specs.Prelude.{ℕ, List, [], ◌∷◌, ◌++◌, map, take, drop, Some, None, Ok, Result}
+use Rattle.std.specs.Prelude.{ℕ, List, [], ◌∷◌, ◌++◌, map, take, drop, Ok, Result}
 use Rattle.levels.specs.Meaning.{Meaning}
 use Rattle.rows.specs.declared.types.TypeKind.TheVariants.{Chan, Sym, Dec}
 use Rattle.rows.specs.declared.types.TypeRow.{TypeRow}
@@ -12,7 +12,7 @@ use Rattle.rows.specs.Processes.{row, adds, operand, run_of}
 use Rattle.rows.specs.Tables.{Tables}
 use Rattle.typing.specs.declared.misuse.Misuse.{Misuse}
 use Rattle.typing.specs.declared.judging.Judgement.{Judgement}
-use Rattle.typing.specs.declared.judging.Judgement.TheVariants.{Done, Binds, Splits, Opens}
+use Rattle.typing.specs.declared.judging.Judgement.TheVariants.{Done, Binds, Splits, Opens, OpensOnce}
 use Rattle.typing.specs.Usage.{used, verified, by_use}
 use Rattle.typing.specs.Terms.{types_of_run, and_then}
 
@@ -38,7 +38,7 @@ judge m ts us p Both = Ok Splits
 judge m ts us p Again = Ok (Binds zeros)
 judge m ts us p If = Ok Splits
 judge m ts us p Sopen = by_use (used m ts (operand_type us p 1) Sym p.count []) (Binds (operand_type us p 1).payload) (Binds zeros)
-judge m ts us p Aopen = by_use (used m ts (operand_type us p 1) Dec p.count []) (Opens (Some (operand_type us p 1).payload)) (Opens None)
+judge m ts us p Aopen = by_use (used m ts (operand_type us p 1) Dec p.count []) (Opens (operand_type us p 1).payload) OpensOnce
 judge m ts us p Verify = by_use (verified m ts (operand_type us p 1) p.count (operand_type us p 0)) (Binds (operand_type us p 1).payload) (Binds zeros)
 
 -- first the row's terms in order, then the row

@@ -75,11 +75,11 @@ impl<'a> Walk<'a> {
             Ok(Judgement::Done) => Ok(()),
             Ok(Judgement::Splits) => print!(self.rt; "; two follow"),
             Ok(Judgement::Binds(new)) => self.show_bound(row, new),
-            Ok(Judgement::Opens(Some(payload))) => {
+            Ok(Judgement::Opens(payload)) => {
                 self.show_bound(row, payload)?;
                 print!(self.rt; "; read twice")
             }
-            Ok(Judgement::Opens(None)) => self.show_bound(row, [0; 4]),
+            Ok(Judgement::OpensOnce) => self.show_bound(row, [0; 4]),
             Err(misuse) => {
                 let number = misuse.number();
                 print!(self.rt; "; refused {number}")
@@ -211,18 +211,15 @@ fn follow(
             }
             left.push(Step::at(next, step.slots))?;
         }
-        Judgement::Opens(payload) => {
-            let open = [0; 4];
-            if payload.is_some() {
-                let once_more = Step::at(next, entered(step.slots.clone()?, row, open));
-                left.push(Step {
-                    once_more: true,
-                    ..once_more
-                })?;
-            }
-            let new = payload.unwrap_or(open);
+        Judgement::Opens(new) => {
+            let once_more = Step::at(next, entered(step.slots.clone()?, row, [0; 4]));
+            left.push(Step {
+                once_more: true,
+                ..once_more
+            })?;
             left.push(Step::at(next, entered(step.slots, row, new)))?;
         }
+        Judgement::OpensOnce => left.push(Step::at(next, entered(step.slots, row, [0; 4])))?,
     }
     Ok(())
 }

@@ -1,12 +1,11 @@
 use Rattle.std.proofs.Common.{◌-◌, ◌<◌, get_or, ⊎_elim, arith, rules}
-use Rattle.std.proofs.lemmas.Result.{err_from_is_err_and}
 use Rattle.levels.specs.Means.{means}
 use Rattle.rows.specs.Tables.{tables}
 use Rattle.shape.proofs.Passed.{passed}
 use Rattle.shape.proofs.Reached
-use Rattle.checking.proofs.Turn.{turn_as, weight_as, begins, shaped, top_inside, known, read_ok, on_done, on_splits, on_binds, space, on_opens, on_refuses, falls, falls_opens, on_again, falls_again, on_back, falls_back}
+use Rattle.checking.proofs.Turn.{turn_as, weight_as, begins, shaped, top_inside, known, read_ok, on_done, on_splits, on_binds, space, space_once, on_opens, on_opens_once, on_refuses, falls, falls_opens, falls_opens_once, on_again, falls_again, on_back, falls_back}
 use Rattle.checking.proofs.verdict.walk.Goals as goal
-use Rattle.checking.proofs.verdict.walk.Goals.{in-Done, in-Binds, in-Opens}
+use Rattle.checking.proofs.verdict.walk.Goals.{in-Done, in-Binds, in-Opens, in-OpensOnce}
 
 pub turn-init : goal.turn-init
 turn-init g c =
@@ -19,21 +18,28 @@ stop_at-requires-clause-known g c = known c.turn.invariant
 pub judge_at-requires-clause-room : goal.judge_at-requires-clause-room
 judge_at-requires-clause-room g c = omega (arith, (passed (means g.S.Scheme c.args.s.now) (tables c.args.l) c.requires).few_terms)
 
-pub returns-in_err-judgement : goal.returns-in_err-judgement
-returns-in_err-judgement g c =
-    let p = err_from_is_err_and c.from_residual.result c.from_residual.ensures.1 in
-    let e = on_refuses c.turn.invariant c.stop_at.ensures c.if-i-stop_at.true c.in_err-judgement.field-0.0 c.in_err-judgement.ensures in
-    rw (p.1, p.2) e
+pub returns-in-Err : goal.returns-in-Err
+returns-in-Err g c = on_refuses c.turn.invariant c.stop_at.ensures c.if-i-stop_at.true _ _ c.in-Err.is c.judge_at.ensures
 
 pub bounds-stack-top : goal.bounds-stack-top
 bounds-stack-top g c =
-    space c.turn.invariant c.stop_at.ensures c.if-i-stop_at.true c.in-Opens.payload
-    (read_ok c.turn.invariant c.stop_at.ensures c.if-i-stop_at.true _ _ c.in-Opens.is c.in_ok-judgement.ensures)
+    space c.turn.invariant c.stop_at.ensures c.if-i-stop_at.true c.in-Opens.new
+    (read_ok c.turn.invariant c.stop_at.ensures c.if-i-stop_at.true _ _ _ c.in-Ok.is c.in-Opens.is c.judge_at.ensures)
+
+pub bounds-stack-top-in-OpensOnce : goal.bounds-stack-top-in-OpensOnce
+bounds-stack-top-in-OpensOnce g c =
+    space_once c.turn.invariant c.stop_at.ensures c.if-i-stop_at.true
+    (read_ok c.turn.invariant c.stop_at.ensures c.if-i-stop_at.true _ _ _ c.in-Ok.is c.in-OpensOnce.is c.judge_at.ensures)
 
 pub bounds-due-top : goal.bounds-due-top
 bounds-due-top g c =
-    space c.turn.invariant c.stop_at.ensures c.if-i-stop_at.true c.in-Opens.payload
-    (read_ok c.turn.invariant c.stop_at.ensures c.if-i-stop_at.true _ _ c.in-Opens.is c.in_ok-judgement.ensures)
+    space c.turn.invariant c.stop_at.ensures c.if-i-stop_at.true c.in-Opens.new
+    (read_ok c.turn.invariant c.stop_at.ensures c.if-i-stop_at.true _ _ _ c.in-Ok.is c.in-Opens.is c.judge_at.ensures)
+
+pub bounds-due-top-in-OpensOnce : goal.bounds-due-top-in-OpensOnce
+bounds-due-top-in-OpensOnce g c =
+    space_once c.turn.invariant c.stop_at.ensures c.if-i-stop_at.true
+    (read_ok c.turn.invariant c.stop_at.ensures c.if-i-stop_at.true _ _ _ c.in-Ok.is c.in-OpensOnce.is c.judge_at.ensures)
 
 pub turn-smaller-then-i-stop_at : goal.turn-smaller-then-i-stop_at
 turn-smaller-then-i-stop_at g c =
@@ -45,7 +51,10 @@ turn-smaller-then-i-stop_at g c =
       | in-Binds w ↦ weight_as _ _ _ w.top-is w.stack-is w.due-is (falls t e h)
       | in-Opens w ↦
           weight_as _ _ _ w.top-is w.stack-is w.due-is
-          (falls_opens t e h w.in-Opens.payload w.is_some.result (read_ok t e h _ _ w.in-Opens.is c.in_ok-judgement.ensures) w.is_some.ensures)
+          (falls_opens t e h w.in-Opens.new (read_ok t e h _ _ _ c.in-Ok.is w.in-Opens.is c.judge_at.ensures))
+      | in-OpensOnce w ↦
+          weight_as _ _ _ w.top-is w.stack-is w.due-is
+          (falls_opens_once t e h (read_ok t e h _ _ _ c.in-Ok.is w.in-OpensOnce.is c.judge_at.ensures))
     ]
 
 pub turn-preserved-then-i-stop_at : goal.turn-preserved-then-i-stop_at
@@ -56,17 +65,20 @@ turn-preserved-then-i-stop_at g c =
     elim c.match-judgement.branch [
       | in-Done w ↦
           turn_as w.env-is w.top-is w.stack-is w.due-is
-          (⊎_elim (λ done. on_done t e h (read_ok t e h _ _ done c.in_ok-judgement.ensures))
-          (λ splits. on_splits t e h (read_ok t e h _ _ splits c.in_ok-judgement.ensures)) w.in-Done.is)
+          (⊎_elim (λ done. on_done t e h (read_ok t e h _ _ _ c.in-Ok.is done c.judge_at.ensures))
+          (λ splits. on_splits t e h (read_ok t e h _ _ _ c.in-Ok.is splits c.judge_at.ensures)) w.in-Done.is)
       | in-Binds w ↦
           turn_as w.env-is w.top-is w.stack-is w.due-is
-          (on_binds t e h w.enter.new.env w.in-Binds.new (read_ok t e h _ _ w.in-Binds.is c.in_ok-judgement.ensures)
+          (on_binds t e h w.enter.new.env w.in-Binds.new (read_ok t e h _ _ _ c.in-Ok.is w.in-Binds.is c.judge_at.ensures)
           (record { below = w.enter.ensures.below; within = w.enter.ensures.within }) w.enter.auto.env)
       | in-Opens w ↦
           turn_as w.env-is w.top-is w.stack-is w.due-is
-          (on_opens t e h w.enter-in-Opens.new.env w.unwrap_or.result w.in-Opens.payload w.is_some.result
-          (read_ok t e h _ _ w.in-Opens.is c.in_ok-judgement.ensures) w.unwrap_or.ensures w.is_some.ensures
+          (on_opens t e h w.enter-in-Opens.new.env w.in-Opens.new (read_ok t e h _ _ _ c.in-Ok.is w.in-Opens.is c.judge_at.ensures)
           (record { below = w.enter-in-Opens.ensures.below; within = w.enter-in-Opens.ensures.within }) w.enter-in-Opens.auto.env)
+      | in-OpensOnce w ↦
+          turn_as w.env-is w.top-is w.stack-is w.due-is
+          (on_opens_once t e h w.enter-in-OpensOnce.new.env (read_ok t e h _ _ _ c.in-Ok.is w.in-OpensOnce.is c.judge_at.ensures)
+          (record { below = w.enter-in-OpensOnce.ensures.below; within = w.enter-in-OpensOnce.ensures.within }) w.enter-in-OpensOnce.auto.env)
     ]
 
 pub bounds-rows-i-then-due-top : goal.bounds-rows-i-then-due-top
