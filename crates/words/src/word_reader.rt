@@ -25,7 +25,7 @@ fn with_digit(value: u16, b: u8) -> Option<u16>
     requires { (48 ≤ b) × (b ≤ 57) }
     ensures { result ≡ with_digit value b }
 {
-    value.checked_mul(10)?.checked_add(u16::from(b - b'0'))
+    u16::try_from(u32::from(value) * 10 + u32::from(b - b'0')).ok()
 }
 
 impl WordReader {
